@@ -1,0 +1,9 @@
+pub mod Answer
+pub mod State
+pub mod Refuse
+pub mod Watch
+pub mod Turn
+pub mod Records
+pub mod Step
+pub mod History
+pub mod Promises

@@ -1,0 +1,76 @@
+-- The state of the box, a clear, and a load.
+use Prim.Native.Nat.{ℕ}
+use mathlib.Core.List.{List, [], _∷_}
+use mathlib.Core.Option.{Option, none, some, Option·getD}
+use mathlib.Core.Bool.{Bool, not, cond}
+use lib.Dec.{eqb}
+use Rattle.lists.specs.Search.{isSome}
+use Rattle.plan_rules.specs.Plan.{Plan, Timing, blank}
+use Rattle.plan_rules.specs.Verdict.{number}
+use Rattle.plan_rules.specs.Judge.{judge}
+use Rattle.plan_rules.specs.Canon.{planOf}
+use Rattle.box_rules.specs.declared.Watchdog.{Watchdog}
+
+pub record Request : Type 0 where
+  pub target : ℕ
+  pub kind : ℕ
+  pub length : ℕ
+  pub number : ℕ
+
+-- a live transaction: the request, the span of the entry that it started at, and the accepted time-codes since
+pub record Live : Type 0 where
+  pub request : Request
+  pub span : ℕ
+  pub age : ℕ
+
+-- one initiator's side: its next transaction number, its line (oldest first), its live transaction
+pub record Side : Type 0 where
+  pub next : ℕ
+  pub line : List Request
+  pub live : Option Live
+
+-- the plan; the byte of the last accepted time-code; each initiator's side
+pub record Box : Type 0 where
+  pub plan : Option Plan
+  pub last : Option ℕ
+  pub side : ℕ → Side
+
+-- "nothing waiting or live, transaction numbers from 0"
+unfoldable pub idle : Side
+idle = record { next = 0; line = []; live = none }
+
+-- "Clear. The state is then the one before any load, every number of it."
+unfoldable pub cleared : Box
+cleared = record { plan = none; last = none; side = λ i. idle }
+
+-- "a clear or a refused load sets all to 0"
+unfoldable pub watchdogCleared : Watchdog
+watchdogCleared = record { last = 0; seen = 0; reported = 0; least = 0; greatest = 0 }
+
+-- "An accepted load replaces everything: no time-code seen, nothing waiting or live, transaction numbers from 0."
+unfoldable pub holding : Plan → Box
+holding p = record { plan = some p; last = none; side = λ i. idle }
+
+unfoldable pub timingOf : Plan → Timing
+timingOf p = elim (p .timings) [ [] ↦ record { least = 0; greatest = 0 } | t ∷ ts ↦ t ]
+
+-- "An accepted load sets the last two from the plan and the others to 0"
+unfoldable pub watchdogFor : Plan → Watchdog
+watchdogFor p = record { last = 0; seen = 0; reported = 0; least = (timingOf p) .least; greatest = (timingOf p) .greatest }
+
+unfoldable pub isAccepted : List ℕ → Bool
+isAccepted file = eqb (number (judge file)) 0
+
+-- "A refused load leaves the state of a clear."
+unfoldable pub loaded : List ℕ → Box
+loaded file = cond (isAccepted file) (holding (planOf file)) cleared
+
+unfoldable pub watchdogLoaded : List ℕ → Watchdog
+watchdogLoaded file = cond (isAccepted file) (watchdogFor (planOf file)) watchdogCleared
+
+unfoldable pub noPlan : Box → Bool
+noPlan b = not (isSome (b .plan))
+
+-- the plan of a box that has one
+unfoldable pub thePlan : Box → Plan
+thePlan b = Option·getD (b .plan) blank

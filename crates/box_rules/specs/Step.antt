@@ -1,0 +1,85 @@
+-- The step: each event gets its answer, its records, and the box and the watchdog after it. And writing out.
+use Prim.Native.Nat.{ℕ, _*_}
+use mathlib.Core.List.{List, [], _∷_, _++_}
+use mathlib.Core.Option.{Option, none, some}
+use mathlib.Core.Bool.{Bool, true, false, not, _&&_, cond}
+use lib.ListN.{length, drop}
+use lib.Dec.{ltb, eqb}
+use Rattle.lists.specs.Rows.{Row, firstOf}
+use Rattle.plan_rules.specs.Canon.{written}
+use Rattle.box_rules.specs.declared.Event.{Event}
+use Rattle.box_rules.specs.declared.Event.the-variants.{TimeCode, Request, Reply, Reading}
+use Rattle.box_rules.specs.declared.Answer.{Answer}
+use Rattle.box_rules.specs.declared.Answer.the-variants.{Refused, Recorded, Joined, Ended, Told}
+use Rattle.box_rules.specs.declared.Copied.{Copied}
+use Rattle.box_rules.specs.declared.Copied.the-variants.{NotWritten, Written}
+use Rattle.box_rules.specs.declared.Watchdog.{Watchdog}
+use Rattle.box_rules.specs.State.{Box, Side, Live, noPlan, thePlan}
+use Rattle.box_rules.specs.Refuse.{refusal}
+use Rattle.box_rules.specs.Watch.{isOverdue, told, fed}
+use Rattle.box_rules.specs.Turn.{join, finish, class, inSequence, turned}
+use Rattle.box_rules.specs.Records.{Record, records}
+
+pub record Outcome : Type 0 where
+  pub answer : Answer
+  pub box : Box
+  pub watchdog : Watchdog
+  pub records : List Record
+
+-- one side changed, the others as they were
+unfoldable pub withSide : Box → ℕ → (Side → Side) → Box
+withSide b i f = record { plan = b .plan; last = b .last; side = λ j. cond (eqb j i) (f (b .side j)) (b .side j) }
+
+-- every side at a time-code
+unfoldable pub ticked : Box → ℕ → Box
+ticked b byte = record {
+  plan = b .plan;
+  last = some byte;
+  side = λ i. turned (thePlan b) (inSequence (b .last) byte) byte i (b .side i);
+}
+
+-- "hands on the status byte and its class"
+unfoldable pub endedBy : ℕ → Option Live → Answer
+endedBy status none = Refused 27
+endedBy status (some l) = Ended (l .request .target) (l .request .length) status (class status)
+
+unfoldable pub accepts : Box → Watchdog → Event → Outcome
+accepts b w (TimeCode byte clock) =
+    let rs = records b w byte clock in
+    record { answer = Recorded (length rs); box = ticked b byte; watchdog = fed w clock; records = rs }
+accepts b w (Request i t k n) =
+    record { answer = Joined ((b .side i) .next); box = withSide b i (join t k n); watchdog = w; records = [] }
+accepts b w (Reply i m status) =
+    record { answer = endedBy status ((b .side i) .live); box = withSide b i finish; watchdog = w; records = [] }
+accepts b w (Reading clock) =
+    record { answer = Told (cond (isOverdue w clock) 1 0); box = b; watchdog = cond (isOverdue w clock) (told w) w; records = [] }
+
+-- "A refusal leaves state, buffers and watchdog numbers untouched and answers its number, all else 0."
+unfoldable pub step : ℕ → Box → Watchdog → Event → Outcome
+step room b w e =
+    elim (eqb (refusal room b e) 0) [
+      | true ↦ accepts b w e
+      | false ↦ record { answer = Refused (refusal room b e); box = b; watchdog = w; records = [] }
+    ]
+
+-- writing out into room bytes: "20 no plan", "30 room under the size needed"
+unfoldable pub copyRows : ℕ → Box → List Row
+copyRows room b = (20, noPlan b) ∷ (30, ltb room (length (written (thePlan b)))) ∷ []
+
+unfoldable pub copyRefusal : ℕ → Box → ℕ
+copyRefusal room b = firstOf (copyRows room b)
+
+unfoldable pub copyAnswer : ℕ → Box → Copied
+copyAnswer room b =
+    elim (eqb (copyRefusal room b) 0) [
+      | true ↦ Written (length (written (thePlan b)))
+      | false ↦ NotWritten (copyRefusal room b)
+    ]
+
+-- "Writing out answers 0 and the size; room beyond it keeps its bytes."
+unfoldable pub copied : Box → List ℕ → List ℕ
+copied b buffer =
+    elim (eqb (copyRefusal (length buffer) b) 0) [
+      | true ↦ written (thePlan b) ++ drop (length (written (thePlan b))) buffer
+      | false ↦ buffer
+    ]

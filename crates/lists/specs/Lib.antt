@@ -1,0 +1,5 @@
+pub mod Search
+pub mod Rows
+pub mod Place
+pub mod Order
+pub mod laws

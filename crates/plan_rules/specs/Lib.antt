@@ -1,0 +1,11 @@
+pub mod Plan
+pub mod Fields
+pub mod Meaning
+pub mod Verdict
+pub mod Judge
+pub mod Canon
+pub mod Print
+pub mod Good
+pub mod Words
+pub mod Promises
+pub mod laws

@@ -1,0 +1,69 @@
+-- The plan: what the fields of a plan file give, in five lists. A field adds one item to one of them.
+use Prim.Native.Nat.{ℕ, _+_, _*_}
+use mathlib.Core.List.{List, [], _∷_, _++_}
+use lib.ListN.{getD}
+
+-- the number at place n of a list, 0 beyond its end
+abbrev pub nth : List ℕ → ℕ → ℕ
+nth xs n = getD xs n 0
+
+-- two and four bytes at offset n as a number, most significant first
+abbrev pub two : List ℕ → ℕ → ℕ
+two s n = nth s n * 256 + nth s (n + 1)
+
+abbrev pub four : List ℕ → ℕ → ℕ
+four s n = two s n * 65_536 + two s (n + 2)
+
+-- kind: 0 node, 1 router
+pub record Device : Type 0 where
+  pub num : ℕ
+  pub kind : ℕ
+
+-- the two devices that it joins
+pub record Link : Type 0 where
+  pub num : ℕ
+  pub one : ℕ
+  pub other : ℕ
+
+-- a path: its links in order. (Path is the name of a type of the library.)
+pub record Route : Type 0 where
+  pub initiator : ℕ
+  pub target : ℕ
+  pub links : List ℕ
+
+pub record Entry : Type 0 where
+  pub initiator : ℕ
+  pub slot : ℕ
+  pub span : ℕ
+  pub targets : List ℕ
+
+-- least and greatest time-code interval
+pub record Timing : Type 0 where
+  pub least : ℕ
+  pub greatest : ℕ
+
+pub record Plan : Type 0 where
+  pub devices : List Device
+  pub links : List Link
+  pub paths : List Route
+  pub entries : List Entry
+  pub timings : List Timing
+
+unfoldable pub blank : Plan
+blank = record { devices = []; links = []; paths = []; entries = []; timings = [] }
+
+-- what one field gives
+pub data Item : Type 0 where
+  device : Device → Item
+  link : Link → Item
+  path : Route → Item
+  entry : Entry → Item
+  timing : Timing → Item
+
+-- the plan with one more item, at the end of its list
+unfoldable pub grow : Plan → Item → Plan
+grow p (device d) = record { devices = p .devices ++ (d ∷ []); links = p .links; paths = p .paths; entries = p .entries; timings = p .timings }
+grow p (link l) = record { devices = p .devices; links = p .links ++ (l ∷ []); paths = p .paths; entries = p .entries; timings = p .timings }
+grow p (path x) = record { devices = p .devices; links = p .links; paths = p .paths ++ (x ∷ []); entries = p .entries; timings = p .timings }
+grow p (entry e) = record { devices = p .devices; links = p .links; paths = p .paths; entries = p .entries ++ (e ∷ []); timings = p .timings }
+grow p (timing t) = record { devices = p .devices; links = p .links; paths = p .paths; entries = p .entries; timings = p .timings ++ (t ∷ []) }
