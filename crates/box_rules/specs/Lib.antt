@@ -5,5 +5,7 @@ pub mod Watch
 pub mod Turn
 pub mod Records
 pub mod Step
+pub mod Running
+pub mod Samples
 pub mod History
 pub mod Promises

@@ -1,5 +1,6 @@
 // What document 01 says of the running box: its state, the events, the answers, the records, and the promises over them.
 // The definitions stand in specs/; the types that cross a call are declared here, so that definitions, contracts and code speak of one type.
+ghost use Rattle.box_rules.specs.Samples.{Samples};
 
 // "An event is one of: time-code with its byte and clock; request with initiator, target, kind, length; reply with initiator,
 // transaction number, status; clock reading."
@@ -67,3 +68,8 @@ pub struct Watchdog {
     pub least: u32,
     pub greatest: u32,
 }
+
+// The samples of document 01 that are marked (P). It does nothing: its contract is the theorem.
+pub fn samples()
+    ensures { λ _. ⌜ Samples ⌝ }
+{}

@@ -5,6 +5,7 @@ pub mod Verdict
 pub mod Judge
 pub mod Canon
 pub mod Print
+pub mod Computing
 pub mod Good
 pub mod Words
 pub mod Promises

@@ -1,11 +1,19 @@
 -- "The printed verdict": one line, words and decimal numbers with one space between, then a newline; as bytes.
 use Prim.Native.Nat.{ℕ, zero, suc, _+_, _/_, _%_}
+use Prim.Native.Char.{code}
+use Prim.Native.String
+use Prim.Native.String.{String}
 use mathlib.Core.List.{List, [], _∷_, _++_, flatMap}
 use mathlib.Core.Bool.{Bool, true, false}
 use lib.Dec.{ltb}
 use Rattle.plan_rules.specs.declared.Verdict.{Verdict}
 use Rattle.plan_rules.specs.declared.Verdict.the-variants.{Accepted, Faulty, Overrun, Clash}
 use Rattle.plan_rules.specs.Verdict.{number, place}
+
+-- the bytes of a text of ASCII characters
+unfoldable pub text : String → List ℕ
+text String.[] = []
+text (String._∷_ c cs) = code c ∷ text cs
 
 -- the decimal digits of n in front of rest; k is at least the number of digits
 unfoldable pub digits : ℕ → ℕ → List ℕ → List ℕ
@@ -21,19 +29,12 @@ decimal n = digits 20 n []
 unfoldable pub numbers : List ℕ → List ℕ
 numbers = flatMap (λ n. 32 ∷ decimal n)
 
--- ACCEPTED, REFUSED
-unfoldable pub accepted : List ℕ
-accepted = 65 ∷ 67 ∷ 67 ∷ 69 ∷ 80 ∷ 84 ∷ 69 ∷ 68 ∷ []
-
-unfoldable pub refused : List ℕ
-refused = 82 ∷ 69 ∷ 70 ∷ 85 ∷ 83 ∷ 69 ∷ 68 ∷ []
-
 -- "ACCEPTED devices links paths entries. REFUSED number place; for 13: initiator slot; for 14: slot, two initiators, link."
 unfoldable pub words : Verdict → List ℕ
-words (Accepted d l p e) = accepted ++ numbers (place (Accepted d l p e))
-words (Faulty n at) = refused ++ numbers (n ∷ place (Faulty n at))
-words (Overrun i s) = refused ++ numbers (13 ∷ place (Overrun i s))
-words (Clash s i j l) = refused ++ numbers (14 ∷ place (Clash s i j l))
+words (Accepted d l p e) = text "ACCEPTED" ++ numbers (place (Accepted d l p e))
+words (Faulty n at) = text "REFUSED" ++ numbers (n ∷ place (Faulty n at))
+words (Overrun i s) = text "REFUSED" ++ numbers (13 ∷ place (Overrun i s))
+words (Clash s i j l) = text "REFUSED" ++ numbers (14 ∷ place (Clash s i j l))
 
 unfoldable pub line : Verdict → List ℕ
 line v = words v ++ (10 ∷ [])
