@@ -1,4 +1,5 @@
 pub mod Search
+pub mod Numbers
 pub mod Rows
 pub mod Place
 pub mod Order

@@ -1,3 +1,4 @@
 pub mod Bools
 pub mod Search
+pub mod Numbers
 pub mod Rows

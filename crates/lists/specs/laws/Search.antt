@@ -3,7 +3,7 @@ use mathlib.Core.Path.{_≡_, refl, sym, ap, _∙_, subst}
 use mathlib.Core.Logic.{_≢_, _⊎_, inl, inr}
 use mathlib.Core.List.{List, [], _∷_, _++_, flatMap, List·Memᴰ, List·Memᴰ·head, List·Memᴰ·tail, List·Memᴰ·append-cases, List·Memᴰ·cases-cons, List·Memᴰ·not-nil, List·Memᴰ·eq-of-singleton, Memᴰ·append-left, Memᴰ·append-right}
 use mathlib.Core.Option.{Option, none, some}
-use mathlib.Core.Bool.{Bool, true, false, not, _&&_, _||_, cond}
+use mathlib.Core.Bool.{Bool, true, false, not, _&&_, _||_, cond, or-false, or-comm, or-true}
 use Prim.Native.Nat.{ℕ, zero, suc, _+_, _≤_, _<_}
 use native.Mathlib.Omega.{arith}
 use native.Mathlib.Decide.{ℕ-discrete}
@@ -11,7 +11,7 @@ use lib.ListN.{length}
 use lib.Dec.{ltb, eqb}
 use borrow.Author.Tests.{eqb-true, eq-eqb}
 use Rattle.lists.specs.Search.{any, all, keep, find, only, when, isSome, isIn, upFrom, below64, seek, least}
-use Rattle.lists.specs.laws.Bools.{both-true, neither, false-either, or-true, not-both, cond-cases, none-some, some-some}
+use Rattle.lists.specs.laws.Bools.{both-true, neither, false-either, not-both, cond-cases, none-some, some-some}
 
 module _ {A : Type 0} (t : A → Bool) where
   -- any
@@ -188,6 +188,11 @@ isIn-elim x xs h = let (y, m, e) = any-elim (eqb x) xs h in rw (eqb-true x y e) 
 pub isIn-intro : (x : ℕ) (xs : List ℕ) → List·Memᴰ x xs → isIn x xs ≡ true
 unfolding isIn
 isIn-intro x xs m = any-intro (eqb x) xs x m (eq-eqb x x refl)
+
+-- a list with one more at its end
+pub isIn-snoc : (k : ℕ) (xs : List ℕ) (y : ℕ) → isIn k (xs ++ y ∷ []) ≡ eqb k y || isIn k xs
+unfolding any isIn
+isIn-snoc k xs y = any-append (eqb k) xs (y ∷ []) ∙ ap (λ (b : Bool). isIn k xs || b) (or-false (eqb k y)) ∙ or-comm (isIn k xs) (eqb k y)
 
 -- a search through the numbers: what it found stands at some number, and no smaller one has an answer
 pub record First {A : Type 0} (f : ℕ → Option A) (from to : ℕ) (r : A) : Type 0 where

@@ -1,0 +1,3 @@
+-- The laws that the proofs of the functions share.
+-- Assumes nothing.
+pub mod Laws
