@@ -3,4 +3,5 @@ pub mod Numbers
 pub mod Rows
 pub mod Place
 pub mod Order
+pub mod Cells
 pub mod laws

@@ -2,3 +2,4 @@ pub mod Bools
 pub mod Search
 pub mod Numbers
 pub mod Rows
+pub mod Cells

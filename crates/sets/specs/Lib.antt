@@ -1,2 +1,3 @@
 pub mod Set
 pub mod Laws
+pub mod Packed

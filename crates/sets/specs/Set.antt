@@ -1,11 +1,11 @@
 -- A number stands for a set of numbers: k is in the set s where the binary digit of s at the place k is 1.
 -- The contracts cite these definitions, and each of them computes. Assumes nothing.
-use Prim.Native.Nat.{ℕ, _/_, _%_, _^_}
+use Prim.Native.Nat.{ℕ, zero, suc, _+_, _*_, _/_, _%_, _^_}
 use mathlib.Core.Bool.{Bool, not, _&&_, _||_}
 use mathlib.Core.List.{List}
 use lib.Dec.{eqb, ltb}
 use Rattle.lists.specs.Search.{isIn}
-use Rattle.lists.specs.Numbers.{anyBelow, countBelow, firstFrom}
+use Rattle.lists.specs.Numbers.{digit, anyBelow, countBelow, firstFrom}
 
 -- The number k is in the set s.
 unfoldable pub member : ℕ → ℕ → Bool
@@ -42,3 +42,11 @@ leastOf s = firstFrom 64 0 (members s)
 -- How many members a set has.
 unfoldable pub sizeOf : ℕ → ℕ
 sizeOf s = countBelow 64 (members s)
+
+-- The number whose digits below n say which numbers pass the test; and the set of all that pass.
+unfoldable pub packedBelow : ℕ → (ℕ → Bool) → ℕ
+packedBelow zero t = 0
+packedBelow (suc n) t = digit (t 0) + 2 * packedBelow n (λ (k : ℕ). t (suc k))
+
+unfoldable pub packed : (ℕ → Bool) → ℕ
+packed t = packedBelow 64 t

@@ -1,0 +1,1 @@
+// The plan in memory that the caller lends: the field reader, the judge, writing out, and the printed line.
