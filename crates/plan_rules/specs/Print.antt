@@ -25,9 +25,12 @@ digits (suc k) n rest =
 unfoldable pub decimal : ℕ → List ℕ
 decimal n = digits 20 n []
 
--- each number with a space before it
+-- a number with a space before it, and several
+unfoldable pub spaced : ℕ → List ℕ
+spaced n = 32 ∷ decimal n
+
 unfoldable pub numbers : List ℕ → List ℕ
-numbers = flatMap (λ n. 32 ∷ decimal n)
+numbers = flatMap spaced
 
 -- "ACCEPTED devices links paths entries. REFUSED number place; for 13: initiator slot; for 14: slot, two initiators, link."
 unfoldable pub words : Verdict → List ℕ
