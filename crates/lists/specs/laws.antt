@@ -3,3 +3,5 @@ pub mod Search
 pub mod Numbers
 pub mod Rows
 pub mod Cells
+pub mod Table
+pub mod Least

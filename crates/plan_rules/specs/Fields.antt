@@ -77,8 +77,8 @@ unfoldable pub itemAt : List ℕ → ℕ → Option Item
 itemAt s at = itemOf (tagAt s at) (contentAt s at)
 
 -- the same the other way: an item's tag, its content, its field
-unfoldable pub four-bytes : ℕ → List ℕ
-four-bytes n = n / 16_777_216 ∷ n / 65_536 % 256 ∷ n / 256 % 256 ∷ n % 256 ∷ []
+unfoldable pub fourBytes : ℕ → List ℕ
+fourBytes n = n / 16_777_216 ∷ n / 65_536 % 256 ∷ n / 256 % 256 ∷ n % 256 ∷ []
 
 unfoldable pub tagFor : Item → ℕ
 tagFor (device d) = 1
@@ -92,7 +92,7 @@ contentFor (device d) = d .num ∷ d .kind ∷ []
 contentFor (link l) = l .num ∷ l .one ∷ l .other ∷ []
 contentFor (path x) = x .initiator ∷ x .target ∷ x .links
 contentFor (entry e) = e .initiator ∷ e .slot ∷ e .span ∷ e .targets
-contentFor (timing t) = four-bytes (t .least) ++ four-bytes (t .greatest)
+contentFor (timing t) = fourBytes (t .least) ++ fourBytes (t .greatest)
 
 unfoldable pub fieldFor : Item → List ℕ
 fieldFor x = tagFor x ∷ length (contentFor x) / 256 ∷ length (contentFor x) % 256 ∷ contentFor x

@@ -1,0 +1,5 @@
+pub mod Reading
+pub mod Ranges
+pub mod Overrun
+pub mod Clash
+pub mod Words
