@@ -3,3 +3,4 @@ pub mod Ranges
 pub mod Overrun
 pub mod Clash
 pub mod Words
+pub mod Meaning

@@ -1,11 +1,13 @@
 -- What is proved of the definitions, each promise a type that reads like the sentence it stands for.
 use mathlib.Core.Path.{_≡_}
 use mathlib.Core.Logic.{_↔_}
-use mathlib.Core.List.{List}
-use Prim.Native.Nat.{ℕ, _≤_}
+use mathlib.Core.List.{List, List·Memᴰ}
+use mathlib.Core.Bool.{true}
+use Prim.Native.Nat.{ℕ, _+_, _*_, _%_, _≤_, _<_}
 use lib.ListN.{length}
 use Rattle.plan_rules.specs.declared.Verdict.{Verdict}
-use Rattle.plan_rules.specs.Plan.{Plan}
+use Rattle.plan_rules.specs.Plan.{Route, Entry, Plan}
+use Rattle.plan_rules.specs.Meaning.{covers, uses, permits}
 use Rattle.plan_rules.specs.Verdict.{number}
 use Rattle.plan_rules.specs.Judge.{judge}
 use Rattle.plan_rules.specs.Canon.{written, given, planOf, canonical, SamePlan}
@@ -15,6 +17,27 @@ use Rattle.plan_rules.specs.Words.{Gets}
 -- a file that is accepted
 abbrev pub Accepted? : List ℕ → Type 0
 Accepted? s = number (judge s) ≡ 0
+
+-- "Entry (initiator, slot s, span n) covers slots s to s+n-1, modulo 64."
+unfoldable pub CoversAsWorded : Type 0
+CoversAsWorded =
+    (e : Entry) (s : ℕ) → e .slot < 64 → e .span ≤ 64 → s < 64 →
+    (covers e s ≡ true) ↔ ((k : ℕ) × (k < e .span) × (s ≡ (e .slot + k) % 64))
+
+-- "A transaction uses the links of its path."
+pub record OnPath (p : Plan) (i t l : ℕ) : Type 0 where
+  pub route : Route
+  pub has : List·Memᴰ route (p .paths)
+  pub from : i ≡ route .initiator
+  pub to : t ≡ route .target
+  pub on : List·Memᴰ l (route .links)
+
+unfoldable pub UsesAsWorded : Type 0
+UsesAsWorded = (p : Plan) (i t l : ℕ) → (uses p i t l ≡ true) ↔ OnPath p i t l
+
+-- "permits the target with 256 × span at least the length"
+unfoldable pub PermitsAsWorded : Type 0
+PermitsAsWorded = (p : Plan) (e : Entry) (t n : ℕ) → (permits p e t n ≡ true) ↔ (List·Memᴰ t (e .targets) × (n ≤ 256 * e .span))
 
 -- The verdict that is computed is the verdict in words, and there is no other.
 unfoldable pub VerdictsAsWorded : Type 0
@@ -41,6 +64,9 @@ unfoldable pub WrittenOutComesBack : Type 0
 WrittenOutComesBack = (s : List ℕ) → Bytes s → Accepted? s → ComesBack s
 
 pub record Promises : Type 0 where
+  pub covers : CoversAsWorded
+  pub uses : UsesAsWorded
+  pub permits : PermitsAsWorded
   pub words : VerdictsAsWorded
   pub exactly : AcceptedExactly
   pub same : SamePlans

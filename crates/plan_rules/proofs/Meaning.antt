@@ -1,0 +1,52 @@
+-- What a plan means, against the paper's sentences: covering, using a link, permitting.
+use mathlib.Core.Path.{_≡_, refl, sym, _∙_}
+use mathlib.Core.List.{List, List·Memᴰ}
+use mathlib.Core.Bool.{Bool, true, false, _&&_}
+use Prim.Native.Nat.{ℕ, _+_, _-_, _*_, _%_, _≤_, _<_}
+use native.Mathlib.Omega.{arith}
+use lib.Dec.{ltb, leb, eqb}
+use borrow.Author.Tests.{ltb-true, lt-ltb, leb-true, le-leb, eqb-true, eq-eqb}
+use Rattle.lists.specs.Search.{any, isIn}
+use Rattle.lists.specs.laws.Bools.{both-true, true-both}
+use Rattle.lists.specs.laws.Search.{any-elim, any-intro, isIn-elim, isIn-intro}
+use Rattle.plan_rules.specs.Plan.{Route, Entry, Plan}
+use Rattle.plan_rules.specs.Meaning.{covers, uses, leadsFrom, fits, permits}
+use Rattle.plan_rules.specs.Promises.{CoversAsWorded, OnPath, UsesAsWorded, PermitsAsWorded}
+
+pub covers-as-worded : CoversAsWorded
+unfolding CoversAsWorded covers
+covers-as-worded e s a b c = (
+  λ h.
+      let l = ltb-true ((s + 64 - e .slot) % 64) (e .span) h in
+      ((s + 64 - e .slot) % 64, l, omega arith),
+  λ x.
+      let k = x .0 in
+      let l : k < e .span = x .1 in
+      let g : s ≡ (e .slot + k) % 64 = x .2 in
+      lt-ltb ((s + 64 - e .slot) % 64) (e .span) (omega arith),
+)
+
+pub uses-as-worded : UsesAsWorded
+unfolding UsesAsWorded uses leadsFrom
+uses-as-worded p i t l = (there, back)
+  where
+    there : uses p i t l ≡ true → OnPath p i t l
+    there h =
+        let (x, m, g) = any-elim _ (p .paths) h in
+        let a = both-true (eqb i (x .initiator) && eqb t (x .target)) (isIn l (x .links)) g in
+        let b = both-true (eqb i (x .initiator)) (eqb t (x .target)) (a .0) in
+        record { route = x; has = m; from = eqb-true _ _ (b .0); to = eqb-true _ _ (b .1); on = isIn-elim l (x .links) (a .1) }
+
+    back : OnPath p i t l → uses p i t l ≡ true
+    back o =
+        any-intro _ (p .paths) (o .route) (o .has)
+        (true-both (true-both (eq-eqb _ _ (o .from)) (eq-eqb _ _ (o .to))) (isIn-intro l (o .route .links) (o .on)))
+
+pub permits-as-worded : PermitsAsWorded
+unfolding PermitsAsWorded permits fits
+permits-as-worded p e t n = (
+  λ h.
+      let a = both-true (isIn t (e .targets)) (leb n (256 * e .span)) h in
+      (isIn-elim t (e .targets) (a .0), leb-true _ _ (a .1)),
+  λ x. true-both (isIn-intro t (e .targets) (x .0)) (le-leb _ _ (x .1)),
+)
