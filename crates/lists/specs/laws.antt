@@ -5,3 +5,5 @@ pub mod Rows
 pub mod Cells
 pub mod Table
 pub mod Least
+pub mod Shuffle
+pub mod Order
