@@ -2,8 +2,6 @@
 use Prim.Native.Nat.{ℕ}
 use Rattle.box_rules.specs.declared.Answer.{Answer}
 use Rattle.box_rules.specs.declared.Answer.the-variants.{Refused, Recorded, Joined, Ended, Told}
-use Rattle.box_rules.specs.declared.Copied.{Copied}
-use Rattle.box_rules.specs.declared.Copied.the-variants.{NotWritten, Written}
 
 -- "An accepted event answers 0 and: the record count; the transaction number; the ended transaction's target, length, status and
 -- class; or the reading's 0 or 1; all else 0." "A refusal … answers its number, all else 0."
@@ -23,12 +21,3 @@ values (Recorded c) = record { number = 0; count = c; transaction = 0; target = 
 values (Joined m) = record { number = 0; count = 0; transaction = m; target = 0; length = 0; status = 0; class = 0; reading = 0 }
 values (Ended t n s c) = record { number = 0; count = 0; transaction = 0; target = t; length = n; status = s; class = c; reading = 0 }
 values (Told x) = record { number = 0; count = 0; transaction = 0; target = 0; length = 0; status = 0; class = 0; reading = x }
-
--- "Writing out answers 0 and the size."
-pub record Sized : Type 0 where
-  pub number : ℕ
-  pub size : ℕ
-
-unfoldable pub sized : Copied → Sized
-sized (NotWritten n) = record { number = n; size = 0 }
-sized (Written n) = record { number = 0; size = n }

@@ -1,18 +1,14 @@
--- The step: each event gets its answer, its records, and the box and the watchdog after it. And writing out.
+-- The step: each event gets its answer, its records, and the box and the watchdog after it.
 use Prim.Native.Nat.{ℕ, _*_}
 use mathlib.Core.List.{List, [], _∷_, _++_}
 use mathlib.Core.Option.{Option, none, some}
 use mathlib.Core.Bool.{Bool, true, false, not, _&&_, cond}
 use lib.ListN.{length, drop}
 use lib.Dec.{ltb, eqb}
-use Rattle.lists.specs.Rows.{Row, firstOf}
-use Rattle.plan_rules.specs.Canon.{written}
 use Rattle.box_rules.specs.declared.Event.{Event}
 use Rattle.box_rules.specs.declared.Event.the-variants.{TimeCode, Request, Reply, Reading}
 use Rattle.box_rules.specs.declared.Answer.{Answer}
 use Rattle.box_rules.specs.declared.Answer.the-variants.{Refused, Recorded, Joined, Ended, Told}
-use Rattle.box_rules.specs.declared.Copied.{Copied}
-use Rattle.box_rules.specs.declared.Copied.the-variants.{NotWritten, Written}
 use Rattle.box_rules.specs.declared.Watchdog.{Watchdog}
 use Rattle.box_rules.specs.State.{Box, Side, Live, noPlan, thePlan}
 use Rattle.box_rules.specs.Refuse.{refusal}
@@ -60,26 +56,4 @@ step room b w e =
     elim (eqb (refusal room b e) 0) [
       | true ↦ accepts b w e
       | false ↦ record { answer = Refused (refusal room b e); box = b; watchdog = w; records = [] }
-    ]
-
--- writing out into room bytes: "20 no plan", "30 room under the size needed"
-unfoldable pub copyRows : ℕ → Box → List Row
-copyRows room b = (20, noPlan b) ∷ (30, ltb room (length (written (thePlan b)))) ∷ []
-
-unfoldable pub copyRefusal : ℕ → Box → ℕ
-copyRefusal room b = firstOf (copyRows room b)
-
-unfoldable pub copyAnswer : ℕ → Box → Copied
-copyAnswer room b =
-    elim (eqb (copyRefusal room b) 0) [
-      | true ↦ Written (length (written (thePlan b)))
-      | false ↦ NotWritten (copyRefusal room b)
-    ]
-
--- "Writing out answers 0 and the size; room beyond it keeps its bytes."
-unfoldable pub copied : Box → List ℕ → List ℕ
-copied b buffer =
-    elim (eqb (copyRefusal (length buffer) b) 0) [
-      | true ↦ written (thePlan b) ++ drop (length (written (thePlan b))) buffer
-      | false ↦ buffer
     ]

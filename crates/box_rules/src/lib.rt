@@ -52,12 +52,6 @@ pub enum Answer {
     },
 }
 
-// What writing out answers: 20 or 30, or the size.
-pub enum Copied {
-    NotWritten { number: u8 },
-    Written { size: u16 },
-}
-
 // "The watchdog's five numbers belong to the caller, who lends them and finds them updated: last clock, whether seen, whether
 // reported, least, greatest." Whether seen and whether reported are numbers like the others: 0 is no, all else is yes.
 #[repr(C)]

@@ -4,6 +4,7 @@ pub mod Meaning
 pub mod Verdict
 pub mod Judge
 pub mod Canon
+pub mod Copy
 pub mod Print
 pub mod Computing
 pub mod Good

@@ -30,6 +30,12 @@ pub enum Verdict {
     },
 }
 
+// What writing out answers: refusal 20 or 30, or the size. `sized` of specs/Copy gives document 01's number and size.
+pub enum Copied {
+    NotWritten { number: u8 },
+    Written { size: u16 },
+}
+
 // What is promised of the definitions. It does nothing: its contract is the theorem.
 pub fn promises()
     ensures { λ _. ⌜ VerdictsAsWorded ⌝ }
