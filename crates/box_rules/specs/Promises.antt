@@ -9,6 +9,7 @@ use lib.ListN.{length}
 use lib.Dec.{eqb, ltb}
 use Rattle.lists.specs.Search.{keep}
 use Rattle.lists.specs.Place.{atPlace}
+use Rattle.lists.specs.Order.{Rising}
 use Rattle.plan_rules.specs.Plan.{Plan, Entry}
 use Rattle.plan_rules.specs.Meaning.{uses, permits}
 use Rattle.plan_rules.specs.Verdict.{number}
@@ -61,7 +62,7 @@ whileStarting b byte k i =
 
 unfoldable pub NotEvenBetweenRecords : Type 0
 NotEvenBetweenRecords =
-    (b : Box) → Reached b → (room byte clock k : ℕ) → refusal room b (TimeCode byte clock) ≡ 0 →
+    (b : Box) → Reached b → (byte k : ℕ) →
     Apart (thePlan b) (whileLate b byte k) × Apart (thePlan b) (whileStarting b byte k)
 
 -- Demand 3, waiting. "A request accepted as number p in its line starts within the next 64·p accepted time-codes if all are in
@@ -74,9 +75,16 @@ RequestsStartInTime =
     (fs : List Fed) → allNext joined fs ≡ true → 64 * (place + 1) ≤ ticks joined fs → hasStarted i place joined fs ≡ true
 
 -- It is this very request: where it waits, the line holds it at that place; where it starts, its record is written and it is live.
+pub record HasStarted (i : ℕ) (r : state.Request) (o : Outcome) : Type 0 where
+  pub value : ℕ
+  pub recorded : List·Memᴰ (full 5 i value r) (o .records)
+  pub live : Live
+  pub is-live : (o .box .side i) .live ≡ some live
+  pub request : live .request ≡ r
+
 pub record ThisOne (i : ℕ) (r : state.Request) (o : Outcome) (f : Fate) : Type 0 where
   pub still : (k : ℕ) → f ≡ waits k → atPlace k ((o .box .side i) .line) ≡ some r
-  pub now : f ≡ starts → ((v : ℕ) × List·Memᴰ (full 5 i v r) (o .records)) × ((l : Live) × ((o .box .side i) .live ≡ some l) × (l .request ≡ r))
+  pub now : f ≡ starts → HasStarted i r o
 
 unfoldable pub ThisVeryRequest : Type 0
 ThisVeryRequest =
@@ -106,14 +114,14 @@ pub record AtAnEntry (b : Box) (byte i : ℕ) (r : Record) : Type 0 where
 
 unfoldable pub StartsOnlyAtEntries : Type 0
 StartsOnlyAtEntries =
-    (b : Box) → Reached b → (room : ℕ) (w : Watchdog) (e : Event) (i : ℕ) (r : Record) →
+    (b : Box) (room : ℕ) (w : Watchdog) (e : Event) (i : ℕ) (r : Record) →
     List·Memᴰ r ((step room b w e) .records) → isStartOf i r ≡ true →
     (byte : ℕ) × (clock : ℕ) × (e ≡ TimeCode byte clock) × AtAnEntry b byte i r
 
 -- "or twice at one visit"
 unfoldable pub OncePerVisit : Type 0
 OncePerVisit =
-    (b : Box) → Reached b → (room : ℕ) (w : Watchdog) (e : Event) (i : ℕ) → length (keep (isStartOf i) ((step room b w e) .records)) ≤ 1
+    (b : Box) (room : ℕ) (w : Watchdog) (e : Event) (i : ℕ) → length (keep (isStartOf i) ((step room b w e) .records)) ≤ 1
 
 -- No start without its record: what is live was live before, or a record of kind 5 says so.
 unfoldable pub LiveByRecordOnly : Type 0
@@ -128,11 +136,6 @@ stage kind = cond (ltb kind 3) 1 (cond (eqb kind 3) 2 (cond (eqb kind 4) 3 4))
 
 abbrev pub rank : Record → ℕ
 rank r = stage (r .kind) * 64 + r .initiator
-
--- each number is smaller than the next
-unfoldable pub Rising : List ℕ → Type 0
-Rising [] = Unit {0}
-Rising (x ∷ xs) = ((y : ℕ) → List·Memᴰ y xs → x < y) × Rising xs
 
 pub record InOrder (clock : ℕ) (rs : List Record) : Type 0 where
   pub most : length rs ≤ mostRecords

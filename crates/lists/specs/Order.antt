@@ -1,7 +1,7 @@
--- A list brought into the order of a key by going through the numbers 0 to 63; and lists that differ in their order only.
-use mathlib.Core.Path.{_≡_}
-use mathlib.Core.List.{List, [], _∷_, _++_, flatMap}
-use Prim.Native.Nat.{ℕ}
+-- Orders: a list brought into the order of a key by going through the numbers 0 to 63, lists that differ in their order only, and
+-- numbers that rise.
+use mathlib.Core.List.{List, [], _∷_, flatMap, List·Memᴰ}
+use Prim.Native.Nat.{ℕ, _<_}
 use lib.Dec.{eqb}
 use Rattle.lists.specs.Search.{keep, below64}
 
@@ -16,3 +16,8 @@ module _ {A : Type 0} where
     next : {x y : A} {xs ys : List A} → R x y → Shuffled R xs ys → Shuffled R (x ∷ xs) (y ∷ ys)
     swap : (x y : A) (xs : List A) → Shuffled R (x ∷ y ∷ xs) (y ∷ x ∷ xs)
     then : {xs ys zs : List A} → Shuffled R xs ys → Shuffled R ys zs → Shuffled R xs zs
+
+-- each number is smaller than those behind it
+unfoldable pub Rising : List ℕ → Type 0
+Rising [] = Unit {0}
+Rising (x ∷ xs) = ((y : ℕ) → List·Memᴰ y xs → x < y) × Rising xs

@@ -7,3 +7,6 @@ pub mod Table
 pub mod Least
 pub mod Shuffle
 pub mod Order
+pub mod Place
+pub mod Count
+pub mod Rising

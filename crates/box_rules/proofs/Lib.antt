@@ -1,0 +1,11 @@
+pub mod Plans
+pub mod Turns
+pub mod Steps
+pub mod Invariant
+pub mod Links
+pub mod Order
+pub mod Visits
+pub mod Places
+pub mod InTime
+pub mod Refusals
+pub mod All
