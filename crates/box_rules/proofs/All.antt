@@ -1,6 +1,6 @@
 -- All promises, from what an accepted file gives.
 use Rattle.box_rules.specs.Promises.{Promises}
-use Rattle.box_rules.specs.Sounds.{Sounds}
+use Rattle.plan_rules.specs.Promises.{AcceptedIsSound}
 use Rattle.box_rules.proofs.Refusals.{refused-event, refused-load}
 use Rattle.box_rules.proofs.Links.{links-never-shared, not-even-between}
 use Rattle.box_rules.proofs.Places.{this-very-request, joins-as-asked}
@@ -8,7 +8,7 @@ use Rattle.box_rules.proofs.InTime.{requests-start-in-time}
 use Rattle.box_rules.proofs.Order.{records-in-order, once-per-visit}
 use Rattle.box_rules.proofs.Visits.{starts-only-at-entries, live-by-record-only}
 
-pub promised : Sounds → Promises
+pub promised : AcceptedIsSound → Promises
 promised ok = record {
   refused-event = refused-event;
   refused-load = refused-load;

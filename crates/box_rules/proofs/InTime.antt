@@ -30,7 +30,7 @@ use Rattle.box_rules.specs.Turn.{inSequence, valueOf, older, survives, a
 use Rattle.box_rules.specs.Step.{step, accepts, Outcome, withSide, ticked}
 use Rattle.box_rules.specs.History.{Fed, feed, isTick, isNext, ticks, allNext, Fate, starts, waits, leaving, left, fate, hasStarted}
 use Rattle.box_rules.specs.Promises.{RequestsStartInTime, JoinsAsAsked}
-use Rattle.box_rules.specs.Sounds.{Sounds}
+use Rattle.plan_rules.specs.Promises.{AcceptedIsSound}
 use Rattle.box_rules.proofs.Plans.{found-at, no-entry-after}
 use Rattle.box_rules.proofs.Turns.{Outlives, outlives, begins-at}
 use Rattle.box_rules.proofs.Steps.{step-cases, plan-kept}
@@ -172,7 +172,7 @@ allowed room b i t k n h =
     let ab = both-true (eqb i (e .initiator)) (permits (thePlan b) e t n) g in
     (e, m, sym (eqb-true i (e .initiator) (ab .0)), ab .1)
 
-pub requests-start-in-time : Sounds → RequestsStartInTime
+pub requests-start-in-time : AcceptedIsSound → RequestsStartInTime
 unfolding RequestsStartInTime allows JoinsAsAsked
 requests-start-in-time ok b reached room w i t k n h fs next enough = go (allowed room b i t k n h)
   where

@@ -21,7 +21,7 @@ use Rattle.box_rules.specs.State.{Box, Side, Live, idle, cleared, holdin
 use Rattle.box_rules.specs.Turn.{Start, valueOf, inSequence, older, allows, fresh, join, finish, startOf, turned}
 use Rattle.box_rules.specs.Step.{step, accepts, Outcome, withSide, ticked}
 use Rattle.box_rules.specs.History.{Reached, by-clear, by-load, by-event}
-use Rattle.box_rules.specs.Sounds.{Sounds}
+use Rattle.plan_rules.specs.Promises.{AcceptedIsSound}
 use Rattle.box_rules.proofs.Plans.{permits-target, sound-blank}
 use Rattle.box_rules.proofs.Turns.{Outlives, Begins, begins, live-cases}
 use Rattle.box_rules.proofs.Steps.{step-cases, live-kept}
@@ -123,12 +123,12 @@ holding-inv : (p : Plan) → Sound p → Inv (holding p)
 unfolding holding idle thePlan
 holding-inv p ok = record { sound = ok; live = λ i l h. none-some h }
 
-loaded-inv : Sounds → (file : List ℕ) → Inv (loaded file)
-unfolding loaded isAccepted
+loaded-inv : AcceptedIsSound → (file : List ℕ) → Inv (loaded file)
+unfolding loaded isAccepted AcceptedIsSound
 loaded-inv ok file =
     cond-cases Inv (isAccepted file) (holding (planOf file)) cleared (λ h. holding-inv (planOf file) (ok file (eqb-true (number (judge file)) 0 h))) (λ _. cleared-inv)
 
-pub reached-inv : Sounds → (b : Box) → Reached b → Inv b
+pub reached-inv : AcceptedIsSound → (b : Box) → Reached b → Inv b
 reached-inv ok b by-clear = cleared-inv
 reached-inv ok b (by-load file) = loaded-inv ok file
 reached-inv ok b (by-event {b = c} r room w e) = step-inv room c w e (reached-inv ok c r)

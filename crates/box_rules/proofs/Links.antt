@@ -13,7 +13,7 @@ use Rattle.plan_rules.specs.laws.Sound.{Sound}
 use Rattle.box_rules.specs.State.{Box, Side, Live, thePlan}
 use Rattle.box_rules.specs.Turn.{valueOf, inSequence, older, aged, turned}
 use Rattle.box_rules.specs.Promises.{runs, Apart, LinksNeverShared, whileLate, whileStarting, NotEvenBetweenRecords}
-use Rattle.box_rules.specs.Sounds.{Sounds}
+use Rattle.plan_rules.specs.Promises.{AcceptedIsSound}
 use Rattle.box_rules.proofs.Plans.{may-use}
 use Rattle.box_rules.proofs.Turns.{outlives}
 use Rattle.box_rules.proofs.Invariant.{AtWork, AllAtWork, Inv, older-at-work, turned-at-work, reached-inv}
@@ -34,7 +34,7 @@ module _ (p : Plan) (ok : Sound p) where
       (may-use-now last (k .byte) i l x (k .seen) k ux)
       (may-use-now last (k .byte) j l y (k .seen) (all j y hy) uy)
 
-pub links-never-shared : Sounds → LinksNeverShared
+pub links-never-shared : AcceptedIsSound → LinksNeverShared
 unfolding LinksNeverShared
 links-never-shared ok b r = let inv = reached-inv ok b r in at-work-apart (thePlan b) (inv .sound) (b .last) (b .side) (inv .live)
 
@@ -66,7 +66,7 @@ module _ (b : Box) (byte k : ℕ) where
       (λ _ g. turned-at-work p (b .last) byte i (inv .sound) s l (inv .live i) g)
       (λ _ g. older-at-work p (b .last) byte i (s .live) l (inv .live i) (outlives q (s .live) l g)) h
 
-pub not-even-between : Sounds → NotEvenBetweenRecords
+pub not-even-between : AcceptedIsSound → NotEvenBetweenRecords
 unfolding NotEvenBetweenRecords LinksNeverShared
 not-even-between ok b r byte k =
     let p = thePlan b in

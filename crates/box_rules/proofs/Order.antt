@@ -23,7 +23,7 @@ use Rattle.box_rules.specs.Turn.{Start, inSequence, valueOf, isLate, sur
 use Rattle.box_rules.specs.Records.{Record, recordBytes, plain, full, watchdogRecord, sequenceRecord, lateRecord, lateRecords, startRecord, stillRecord, visitRecords, visitsRecords, records}
 use Rattle.lists.specs.Order.{Rising}
 use Rattle.box_rules.specs.Promises.{isStartOf, stage, rank, RecordsInOrder, OncePerVisit}
-use Rattle.box_rules.specs.Sounds.{Sounds}
+use Rattle.plan_rules.specs.Promises.{AcceptedIsSound}
 use Rattle.box_rules.proofs.Plans.{initiator-below}
 use Rattle.box_rules.proofs.Turns.{begins}
 use Rattle.box_rules.proofs.Steps.{records-cases}
@@ -190,7 +190,7 @@ module _ (b : Box) (w : Watchdog) (byte clock : ℕ) where
           visits-few q refl,
         )
 
-pub records-in-order : Sounds → RecordsInOrder
+pub records-in-order : AcceptedIsSound → RecordsInOrder
 unfolding RecordsInOrder recordBytes
 records-in-order ok b reached w byte clock = record {
   most = records-few b w byte clock ((reached-inv ok b reached) .sound .eight);

@@ -23,7 +23,7 @@ use Rattle.box_rules.specs.Records.{full}
 use Rattle.box_rules.specs.Step.{step, accepts, Outcome, withSide, ticked}
 use Rattle.box_rules.specs.History.{Fate, starts, waits, leaving, left, fate}
 use Rattle.box_rules.specs.Promises.{HasStarted, ThisOne, ThisVeryRequest, JoinsAsAsked}
-use Rattle.box_rules.specs.Sounds.{Sounds}
+use Rattle.plan_rules.specs.Promises.{AcceptedIsSound}
 use Rattle.box_rules.proofs.Turns.{begins, turned-start, turned-rest}
 use Rattle.box_rules.proofs.Steps.{refused, step-accepted, step-cases, side-cases, side-changed}
 use Rattle.box_rules.proofs.Invariant.{reached-inv}
@@ -109,7 +109,7 @@ module _ (b : Box) (w : Watchdog) (i k : ℕ) (r : state.Request) (h : atPlace k
   event-one room (Reply j m status) ok = waits-on room (Reply j m status) (line-kept j finish (λ s at. at))
   event-one room (Reading clock) ok = waits-on room (Reading clock) h
 
-pub this-very-request : Sounds → ThisVeryRequest
+pub this-very-request : AcceptedIsSound → ThisVeryRequest
 unfolding ThisVeryRequest
 this-very-request ok b reached room w i k r h e = event-one b w i k r h room e ((reached-inv ok b reached) .sound)
 

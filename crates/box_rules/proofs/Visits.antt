@@ -20,7 +20,7 @@ use Rattle.box_rules.specs.Turn.{Start, valueOf, inSequence, survives, o
 use Rattle.box_rules.specs.Records.{Record, full, startRecord, stillRecord, visitRecords, visitsRecords, records}
 use Rattle.box_rules.specs.Step.{accepts, Outcome, withSide, ticked}
 use Rattle.box_rules.specs.Promises.{isStartOf, AtAnEntry, StartsOnlyAtEntries, LiveByRecordOnly}
-use Rattle.box_rules.specs.Sounds.{Sounds}
+use Rattle.plan_rules.specs.Promises.{AcceptedIsSound}
 use Rattle.box_rules.proofs.Plans.{its-initiator}
 use Rattle.box_rules.proofs.Turns.{Outlives, begins, live-cases}
 use Rattle.box_rules.proofs.Steps.{step-cases, live-kept, records-cases}
@@ -115,7 +115,7 @@ module _ (b : Box) (w : Watchdog) (i : ℕ) (l : Live) where
   accepted-live (Reply j m status) ok h = inl (kept-live j finish (λ s g. none-some g) h)
   accepted-live (Reading clock) ok h = inl (l, h, refl, refl)
 
-pub live-by-record-only : Sounds → LiveByRecordOnly
+pub live-by-record-only : AcceptedIsSound → LiveByRecordOnly
 unfolding LiveByRecordOnly
 live-by-record-only ok b reached room w e i l h =
     step-cases room b w e (λ (o : Outcome). (o .box .side i) .live ≡ some l → Lived b i l ⊎ Told i l (o .records))

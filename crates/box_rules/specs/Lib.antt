@@ -9,4 +9,3 @@ pub mod Running
 pub mod Samples
 pub mod History
 pub mod Promises
-pub mod Sounds

@@ -1,7 +1,6 @@
 // What document 01 says of the running box: its state, the events, the answers, the records, and the promises over them.
 // The definitions stand in specs/; the types that cross a call are declared here, so that definitions, contracts and code speak of one type.
 ghost use Rattle.box_rules.specs.Samples.{Samples};
-ghost use Rattle.box_rules.specs.Sounds.{Sounds};
 ghost use Rattle.box_rules.specs.Promises.{Promises};
 
 // "An event is one of: time-code with its byte and clock; request with initiator, target, kind, length; reply with initiator,
@@ -70,7 +69,9 @@ pub fn samples()
     ensures { λ _. ⌜ Samples ⌝ }
 {}
 
-// What is promised of the definitions. It does nothing: its contract is the theorem.
+// What is promised of the definitions. It does nothing: its contract is the theorem, and rests on that of the plan rules.
 pub fn promises()
-    ensures { λ _. ⌜ (Sounds → Promises) ⌝ }
-{}
+    ensures { λ _. ⌜ Promises ⌝ }
+{
+    plan_rules::promises();
+}

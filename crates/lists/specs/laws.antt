@@ -10,3 +10,5 @@ pub mod Order
 pub mod Place
 pub mod Count
 pub mod Rising
+pub mod Append
+pub mod Pigeonhole

@@ -1,6 +1,6 @@
-pub mod Reading
-pub mod Ranges
-pub mod Overrun
-pub mod Clash
-pub mod Words
 pub mod Meaning
+pub mod Reading
+pub mod Words
+pub mod Exactly
+pub mod Back
+pub mod All

@@ -12,37 +12,17 @@ use lib.Dec.{ltb}
 use borrow.Author.Tests.{ltb-false, le-leb, lt-leb, eq-eqb, ne-eqb}
 use Rattle.lists.specs.Rows.{testOf}
 use Rattle.lists.specs.laws.Bools.{neither}
-use Rattle.lists.specs.laws.Rows.{rise}
-use Rattle.lists.specs.laws.Table.{first-is-row, first-is-none}
 use Rattle.plan_rules.specs.Plan.{Plan, blank, Item}
 use Rattle.plan_rules.specs.Fields.{tagAt, nextAt, itemAt}
-use Rattle.plan_rules.specs.Judge.{itemRows, fieldRows, fieldFault, withField, Reading, plan, fault, readFrom, readFile}
+use Rattle.plan_rules.specs.Judge.{headRows, fieldRows, fieldFault, withField, Reading, plan, fault, readFrom, readFile}
 use Rattle.plan_rules.specs.Words.{Faultless, Fault, Reaches, start, next}
-
--- a field's table: its numbers rise, so its fault is the least row that holds
-rows-rise : (p : Plan) (s : List ℕ) (at before : ℕ) → rise 0 (fieldRows p s at before) ≡ true
-unfolding rise fieldRows itemRows
-rows-rise p s at before = go (itemAt s at) refl
-  where
-    go : (o : Option Item) → itemAt s at ≡ o → rise 0 (fieldRows p s at before) ≡ true
-    go none e = rw (e, fieldRows)
-    go (some x) e = rw (e, fieldRows)
+use Rattle.plan_rules.specs.laws.FieldRows.{faultless, has-fault}
 
 -- the field at an offset, after a field with the tag before and the plan p
 module _ (p : Plan) (s : List ℕ) (at before : ℕ) where
-  pub faultless : (fieldFault p s at before ≡ 0) ↔ Faultless p s at before
-  unfolding fieldFault
-  faultless = first-is-none (fieldRows p s at before) (rows-rise p s at before)
-
-  pub has-fault : (n : ℕ) → ((fieldFault p s at before ≡ n) × (n ≢ 0)) ↔ Fault p s at before n
-  unfolding fieldFault
-  has-fault n =
-      let e = first-is-row (fieldRows p s at before) (rows-rise p s at before) n in
-      (λ h. let f = e .0 h in record { holds = f .holds; least = f .before }, λ f. e .1 (record { holds = f .holds; before = f .least }))
-
   -- a faultless field ends within the file
   pub ends-within : Faultless p s at before → nextAt s at ≤ length s
-  unfolding testOf fieldRows
+  unfolding testOf headRows fieldRows
   ends-within h = ltb-false _ _ ((neither (ltb (length s) (at + 3)) (ltb (length s) (nextAt s at)) (h 2)) .1)
 
   -- the reading from here: at the end of the file, past a faultless field, at a fault
@@ -53,12 +33,12 @@ module _ (p : Plan) (s : List ℕ) (at before : ℕ) where
 
   read-past : (k : ℕ) → at < length s → Faultless p s at before → readFrom (suc k) s at before p ≡ readFrom k s (nextAt s at) (tagAt s at) (withField p s at)
   unfolding readFrom
-  read-past k h f = rw (lt-leb (length s) at h, eq-eqb (fieldFault p s at before) 0 (faultless .1 f), readFrom)
+  read-past k h f = rw (lt-leb (length s) at h, eq-eqb (fieldFault p s at before) 0 ((faultless p s at before) .1 f), readFrom)
 
   read-fault : (k n : ℕ) → at < length s → Fault p s at before n → readFrom (suc k) s at before p ≡ fault n at
   unfolding readFrom
   read-fault k n h f =
-      let (e, z) = (has-fault n) .1 f in
+      let (e, z) = (has-fault p s at before n) .1 f in
       rw (lt-leb (length s) at h, ne-eqb (fieldFault p s at before) 0 (λ y. z (sym e ∙ y)), readFrom) (ap (λ (m : ℕ). fault m at) e)
 
 -- no reached offset lies beyond the file

@@ -1,7 +1,7 @@
 -- The verdict that is computed is the verdict in words.
 use mathlib.Core.Path.{_≡_, refl, sym, _∙_}
 use mathlib.Core.Logic.{_≢_, _↔_}
-use mathlib.Core.List.{List, [], _∷_, cons≢nil}
+use mathlib.Core.List.{List, [], _∷_, cons≢nil, List·Memᴰ}
 use mathlib.Core.Option.{Option, none, some}
 use mathlib.Core.Bool.{Bool, true, false}
 use Prim.Native.Nat.{ℕ, _≤_, _<_}
@@ -11,14 +11,17 @@ use borrow.Author.Tests.{ltb-true, ltb-false, lt-ltb, le-ltb}
 use Rattle.lists.specs.Search.{firstSome}
 use Rattle.plan_rules.specs.declared.Verdict.{Verdict}
 use Rattle.plan_rules.specs.declared.Verdict.the-variants.{Faulty, Overrun, Clash}
-use Rattle.plan_rules.specs.Plan.{Timing, Plan}
-use Rattle.plan_rules.specs.Judge.{Reading, plan, fault, readFile, noTiming, overrun, clash, counts, wholePlan, judge}
+use Rattle.plan_rules.specs.Plan.{Timing, Entry, Plan}
+use Rattle.plan_rules.specs.Judge.{Reading, plan, fault, readFile, outOfRange, noTiming, overrun, clash, counts, wholePlan, judge}
+use Rattle.plan_rules.specs.Good.{Each}
 use Rattle.plan_rules.specs.Words.{Whole, LeastOverrun, LeastClash, NoOverrun, NoClash, Gets, over-long, faulty, without-timing, overrunning, clashing, accepted}
 use Rattle.plan_rules.specs.Promises.{VerdictsAsWorded}
 use Rattle.plan_rules.proofs.Reading.{FaultAt, file-says}
-use Rattle.plan_rules.proofs.Ranges.{Ranged, reached-ranged}
-use Rattle.plan_rules.proofs.Overrun.{overrun-says, overrun-none}
-use Rattle.plan_rules.proofs.Clash.{clash-says, clash-none}
+use Rattle.plan_rules.specs.laws.Ranges.{EntryRange}
+use Rattle.plan_rules.specs.laws.InRange.{entry-ranged}
+use Rattle.plan_rules.specs.laws.Overruns.{overrun-says, overrun-none}
+use Rattle.plan_rules.specs.laws.Clashes.{clash-says, clash-none}
+use Rattle.plan_rules.specs.laws.Accepted.{file-fair}
 
 -- the verdict on a file by what its reading says
 module _ (s : List ℕ) where
@@ -62,20 +65,23 @@ module _ (s : List ℕ) (p : Plan) where
 
 -- what the two searches over the entries say of a whole file
 module _ {s : List ℕ} {p : Plan} (w : Whole s p) where
-  ranged : Ranged p
-  ranged = reached-ranged (w .reached)
+  ranged : Each p outOfRange false
+  ranged = (file-fair s p ((file-says s (plan p)) .1 (record { before = w .before; reached = w .reached }))) .ranges
+
+  entries : (e : Entry) → List·Memᴰ e (p .entries) → EntryRange e
+  entries = entry-ranged p ranged
 
   overrun-as : (o : Verdict) → (overrun (p .entries) ≡ some o) ↔ ((i : ℕ) × (v : ℕ) × (o ≡ Overrun i v) × LeastOverrun (p .entries) i v)
-  overrun-as = overrun-says (p .entries) (ranged .entry)
+  overrun-as = overrun-says (p .entries) entries
 
   overrun-not : (overrun (p .entries) ≡ none) ↔ NoOverrun p
-  overrun-not = overrun-none (p .entries) (ranged .entry)
+  overrun-not = overrun-none (p .entries) entries
 
   clash-as : (o : Verdict) → (clash p (p .entries) ≡ some o) ↔ ((v : ℕ) × (i : ℕ) × (j : ℕ) × (l : ℕ) × (o ≡ Clash v i j l) × LeastClash p (p .entries) v i j l)
-  clash-as = clash-says p (p .entries) ranged (ranged .entry)
+  clash-as = clash-says p (p .entries) ranged entries
 
   clash-not : (clash p (p .entries) ≡ none) ↔ NoClash p
-  clash-not = clash-none p (p .entries) ranged (ranged .entry)
+  clash-not = clash-none p (p .entries) ranged entries
 
 -- the verdict in words is computed
 computed : {s : List ℕ} {v : Verdict} → Gets s v → judge s ≡ v

@@ -76,14 +76,18 @@ itemRows p x =
     ∷ (11, noPath p x)
     ∷ []
 
--- rows 2 to 11, of the field at offset at of file s, after a field with the tag before (0 for none) and the plan p
-unfoldable pub fieldRows : Plan → List ℕ → ℕ → ℕ → List Row
-fieldRows p s at before =
+-- rows 2 to 5, of the field at offset at of file s, after a field with the tag before (0 for none)
+unfoldable pub headRows : List ℕ → ℕ → ℕ → List Row
+headRows s at before =
     (2, ltb (length s) (at + 3) || ltb (length s) (nextAt s at))
     ∷ (3, not (isTag (tagAt s at)))
     ∷ (4, ltb (tagAt s at) before || eqb (tagAt s at) before && comesOnce (tagAt s at))
     ∷ (5, not (lengthAllowed (tagAt s at) (sizeAt s at)))
-    ∷ elim (itemAt s at) [ none ↦ [] | some x ↦ itemRows p x ]
+    ∷ []
+
+-- rows 2 to 11, of that field after the plan p
+unfoldable pub fieldRows : Plan → List ℕ → ℕ → ℕ → List Row
+fieldRows p s at before = headRows s at before ++ elim (itemAt s at) [ none ↦ [] | some x ↦ itemRows p x ]
 
 -- the fault of that field, 0 for none
 unfoldable pub fieldFault : Plan → List ℕ → ℕ → ℕ → ℕ

@@ -13,6 +13,7 @@ use Rattle.plan_rules.specs.Judge.{judge}
 use Rattle.plan_rules.specs.Canon.{written, given, planOf, canonical, SamePlan}
 use Rattle.plan_rules.specs.Good.{Bytes, Good}
 use Rattle.plan_rules.specs.Words.{Gets}
+use Rattle.plan_rules.specs.laws.Sound.{Sound}
 
 -- a file that is accepted
 abbrev pub Accepted? : List ℕ → Type 0
@@ -61,7 +62,11 @@ pub record ComesBack (s : List ℕ) : Type 0 where
   pub most : length (written (planOf s)) ≤ 13_643
 
 unfoldable pub WrittenOutComesBack : Type 0
-WrittenOutComesBack = (s : List ℕ) → Bytes s → Accepted? s → ComesBack s
+WrittenOutComesBack = (s : List ℕ) → Accepted? s → ComesBack s
+
+-- The plan that an accepted file gives is one that a box can run: no overrun, no clash, at most eight initiators.
+unfoldable pub AcceptedIsSound : Type 0
+AcceptedIsSound = (s : List ℕ) → Accepted? s → Sound (planOf s)
 
 pub record Promises : Type 0 where
   pub covers : CoversAsWorded
@@ -71,3 +76,4 @@ pub record Promises : Type 0 where
   pub exactly : AcceptedExactly
   pub same : SamePlans
   pub back : WrittenOutComesBack
+  pub sound : AcceptedIsSound

@@ -1,6 +1,6 @@
 // What document 01 says of plans: the file, what it means, the verdict on it, its canonical order, the printed line.
 // The definitions stand in specs/; the verdict is declared here, so that definitions, contracts and code speak of one type.
-ghost use Rattle.plan_rules.specs.Promises.{VerdictsAsWorded};
+ghost use Rattle.plan_rules.specs.Promises.{Promises};
 
 // The verdict on a plan file. `number` and `place` of specs/Verdict give document 01's numbers for each case.
 pub enum Verdict {
@@ -38,5 +38,5 @@ pub enum Copied {
 
 // What is promised of the definitions. It does nothing: its contract is the theorem.
 pub fn promises()
-    ensures { λ _. ⌜ VerdictsAsWorded ⌝ }
+    ensures { λ _. ⌜ Promises ⌝ }
 {}

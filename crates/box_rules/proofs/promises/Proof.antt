@@ -1,12 +1,14 @@
+-- The promises, from their proofs and from the contract of the plan rules. Assumes nothing.
+use borrow.Author.Needs.{needs}
 use Rattle.box_rules.proofs.All.{promised}
 use Rattle.box_rules.proofs.promises.Statement.{statement}
 use Rattle.box_rules.proofs.promises.Tie as tie
-use Rattle.box_rules.proofs.promises.Reads as reads
-use Rattle.box_rules.proofs.promises.Lts as lts
 
--- src/lib.rt:74:1
+promises-requires : tie.Need-promises-requires
+promises-requires c κs = search needs
+
 returns : tie.Need-returns
-returns c = promised
+returns c = promised (c .promises .ensures .sound)
 
 pub promises-spec : {M : Type 1} → statement M
-promises-spec = tie.close (tie.spec returns)
+promises-spec = tie.close (tie.spec promises-requires returns)

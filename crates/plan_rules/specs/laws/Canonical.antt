@@ -17,7 +17,7 @@ use Rattle.plan_rules.specs.Canon.{smallFirst, rising, withRising, canon
 use Rattle.plan_rules.specs.Good.{Good, Each, sameDevice, sameLink, sameRoute, sameEntry}
 use Rattle.plan_rules.specs.laws.Same.{link-refl, entry-refl, plan-sym, plan-trans, same-ends}
 use Rattle.plan_rules.specs.laws.SameItems.{good-same}
-use Rattle.plan_rules.specs.laws.Members.{device-below, link-below, path-below, entry-below, target-below}
+use Rattle.plan_rules.specs.laws.InRange.{device-ranged, link-ranged, path-ranged, entry-ranged}
 
 -- smallFirst gives the same link, and withRising the same entry ..
 pub smallFirst-same : (l : Link) → SameLink l (smallFirst l)
@@ -57,11 +57,11 @@ pub same-ordered : (p : Plan) → Each p outOfRange false → ((e : Entry) → L
     → SamePlan p (canonical p)
 unfolding canonical
 same-ordered p r u = record {
-  devices = inOrder-shuffled (λ d. d .num) (p .devices) (device-below p r);
-  links = shuffled-each link-refl smallFirst (inOrder-shuffled (λ l. l .num) (p .links) (link-below p r)) (λ l m. smallFirst-same l);
-  paths = inOrders-shuffled (λ x. x .initiator) (λ x. x .target) (p .paths) (path-below p r);
-  entries = shuffled-each entry-refl withRising (inOrders-shuffled (λ e. e .initiator) (λ e. e .slot) (p .entries) (entry-below p r))
-      (λ e m. withRising-same e (u e m) (target-below p r e m));
+  devices = inOrder-shuffled (λ d. d .num) (p .devices) (λ d m. (device-ranged p r d m) .num);
+  links = shuffled-each link-refl smallFirst (inOrder-shuffled (λ l. l .num) (p .links) (λ l m. (link-ranged p r l m) .num)) (λ l m. smallFirst-same l);
+  paths = inOrders-shuffled (λ x. x .initiator) (λ x. x .target) (p .paths) (λ x m. let h = path-ranged p r x m in (h .initiator, h .target));
+  entries = shuffled-each entry-refl withRising (inOrders-shuffled (λ e. e .initiator) (λ e. e .slot) (p .entries) (λ e m. let h = entry-ranged p r e m in (h .initiator, h .slot)))
+      (λ e m. withRising-same e (u e m) ((entry-ranged p r e m) .targets));
   timings = refl;
 }
 

@@ -18,7 +18,7 @@ use Rattle.plan_rules.specs.Plan.{Entry}
 use Rattle.plan_rules.specs.Meaning.{covers, standsAt, runsInto, overruns}
 use Rattle.plan_rules.specs.Judge.{overrunAt, overrunOf, overrun}
 use Rattle.plan_rules.specs.Words.{Overrunning, LeastOverrun}
-use Rattle.plan_rules.proofs.Ranges.{Below64}
+use Rattle.plan_rules.specs.laws.Ranges.{EntryRange}
 
 -- the entry of initiator i in slot v
 pub stands-at : (i v : ℕ) (e : Entry) → (standsAt i v e ≡ true) ↔ ((i ≡ e .initiator) × (v ≡ e .slot))
@@ -68,7 +68,7 @@ verdict x = Overrun (x .0) (x .1 .0)
 abbrev OverrunsAt : List Entry → Place → Type 0
 OverrunsAt es x = Overrunning es (x .0) (x .1 .0)
 
-module _ (es : List Entry) (below : (e : Entry) → List·Memᴰ e es → Below64 e) where
+module _ (es : List Entry) (below : (e : Entry) → List·Memᴰ e es → EntryRange e) where
   -- only numbers below 64 have to be searched
   overrun-low : (i v : ℕ) → Overrunning es i v → (i < 64) × (v < 64)
   overrun-low i v o = let b = below (o .mine) (o .has-mine) in (omega (arith, o .of-mine, b .initiator), omega (arith, o .at-mine, b .slot))

@@ -3,7 +3,7 @@ use mathlib.Core.Path.{_≡_, sym}
 use mathlib.Core.Logic.{_↔_}
 use mathlib.Core.List.{List, List·Memᴰ}
 use mathlib.Core.Option.{none, some}
-use mathlib.Core.Bool.{true, _&&_}
+use mathlib.Core.Bool.{true, _&&_, false}
 use Prim.Native.Nat.{ℕ, _+_, _*_, _<_}
 use native.Mathlib.Omega.{arith}
 use lib.Dec.{ltb, eqb}
@@ -16,9 +16,11 @@ use Rattle.plan_rules.specs.declared.Verdict.{Verdict}
 use Rattle.plan_rules.specs.declared.Verdict.the-variants.{Clash}
 use Rattle.plan_rules.specs.Plan.{Route, Entry, Plan}
 use Rattle.plan_rules.specs.Meaning.{leadsFrom, uses, covers, reaches, mayUse, isAtWork}
-use Rattle.plan_rules.specs.Judge.{clashOn, clashWith, clashOf, clashIn, clash}
+use Rattle.plan_rules.specs.Judge.{outOfRange, clashOn, clashWith, clashOf, clashIn, clash}
+use Rattle.plan_rules.specs.Good.{Each}
 use Rattle.plan_rules.specs.Words.{Clashing, LeastClash}
-use Rattle.plan_rules.proofs.Ranges.{Below64, Ranged}
+use Rattle.plan_rules.specs.laws.Ranges.{EntryRange}
+use Rattle.plan_rules.specs.laws.InRange.{path-ranged}
 
 -- initiator i may use link l in slot v: by an entry that covers v, for a target
 pub record May (p : Plan) (es : List Entry) (v i l : ℕ) : Type 0 where
@@ -50,11 +52,11 @@ unfolding isAtWork
 at-work p es v i l m = any-intro (λ (e : Entry). eqb i (e .initiator) && covers e v) es (m .entry) (m .has) (true-both (eq-eqb i (m .entry .initiator) (sym (m .own))) (m .over))
 
 -- a link that is used is below 64
-used-low : (p : Plan) (i t l : ℕ) → Ranged p → uses p i t l ≡ true → l < 64
+pub used-low : (p : Plan) (i t l : ℕ) → Each p outOfRange false → uses p i t l ≡ true → l < 64
 unfolding uses
 used-low p i t l r h =
     let (x, m, g) = any-elim (λ (x : Route). leadsFrom i t x && isIn l (x .links)) (p .paths) h in
-    r .link x l m (isIn-elim l (x .links) ((both-true (leadsFrom i t x) (isIn l (x .links)) g) .1))
+    (path-ranged p r x m) .links l (isIn-elim l (x .links) ((both-true (leadsFrom i t x) (isIn l (x .links)) g) .1))
 
 -- two initiators clash on a link exactly when both may use it
 module _ {p : Plan} {es : List Entry} {v i j l : ℕ} (c : Clashing p es v i j l) where
@@ -84,7 +86,7 @@ both-use h o x y = record {
   on-yours = y .on;
 }
 
-clash-test : (p : Plan) (es : List Entry) (v i j l : ℕ) → v < 64 → i < j → (mayUse p es v i l && mayUse p es v j l ≡ true) ↔ Clashing p es v i j l
+pub clash-test : (p : Plan) (es : List Entry) (v i j l : ℕ) → v < 64 → i < j → (mayUse p es v i l && mayUse p es v j l ≡ true) ↔ Clashing p es v i j l
 clash-test p es v i j l h o = (
   λ e. let a = both-true (mayUse p es v i l) (mayUse p es v j l) e in both-use h o ((may-use p es v i l) .0 (a .0)) ((may-use p es v j l) .0 (a .1)),
   λ c. true-both ((may-use p es v i l) .1 (mine c)) ((may-use p es v j l) .1 (yours c)),
@@ -103,7 +105,7 @@ verdict x = Clash (x .0) (x .1 .0) (x .1 .1 .0) (x .1 .1 .1 .0)
 abbrev ClashesAt : Plan → List Entry → Place → Type 0
 ClashesAt p es x = Clashing p es (x .0) (x .1 .0) (x .1 .1 .0) (x .1 .1 .1 .0)
 
-module _ (p : Plan) (es : List Entry) (r : Ranged p) (below : (e : Entry) → List·Memᴰ e es → Below64 e) where
+module _ (p : Plan) (es : List Entry) (r : Each p outOfRange false) (below : (e : Entry) → List·Memᴰ e es → EntryRange e) where
   -- only numbers below 64 have to be searched
   record Low (v i j l : ℕ) : Type 0 where
     slot : v < 64
