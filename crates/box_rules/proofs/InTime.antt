@@ -31,7 +31,7 @@ use Rattle.box_rules.specs.Step.{step, accepts, Outcome, withSide, ticke
 use Rattle.box_rules.specs.History.{Fed, feed, isTick, isNext, ticks, allNext, Fate, starts, waits, leaving, left, fate, hasStarted}
 use Rattle.box_rules.specs.Promises.{RequestsStartInTime, JoinsAsAsked}
 use Rattle.plan_rules.specs.Promises.{AcceptedIsSound}
-use Rattle.box_rules.proofs.Plans.{found-at, no-entry-after}
+use Rattle.plan_rules.specs.laws.Runs.{found-at, no-entry-after}
 use Rattle.box_rules.proofs.Turns.{Outlives, outlives, begins-at}
 use Rattle.box_rules.proofs.Steps.{step-cases, plan-kept}
 use Rattle.box_rules.proofs.Invariant.{AtWork, Inv, next-value, older-at-work, step-inv, reached-inv}

@@ -22,7 +22,7 @@ use Rattle.box_rules.specs.Turn.{Start, valueOf, inSequence, older, allo
 use Rattle.box_rules.specs.Step.{step, accepts, Outcome, withSide, ticked}
 use Rattle.box_rules.specs.History.{Reached, by-clear, by-load, by-event}
 use Rattle.plan_rules.specs.Promises.{AcceptedIsSound}
-use Rattle.box_rules.proofs.Plans.{permits-target, sound-blank}
+use Rattle.plan_rules.specs.laws.Runs.{permits-target, sound-blank}
 use Rattle.box_rules.proofs.Turns.{Outlives, Begins, begins, live-cases}
 use Rattle.box_rules.proofs.Steps.{step-cases, live-kept}
 

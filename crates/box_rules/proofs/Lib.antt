@@ -1,4 +1,3 @@
-pub mod Plans
 pub mod Turns
 pub mod Steps
 pub mod Invariant

@@ -14,7 +14,7 @@ use Rattle.box_rules.specs.State.{Box, Side, Live, thePlan}
 use Rattle.box_rules.specs.Turn.{valueOf, inSequence, older, aged, turned}
 use Rattle.box_rules.specs.Promises.{runs, Apart, LinksNeverShared, whileLate, whileStarting, NotEvenBetweenRecords}
 use Rattle.plan_rules.specs.Promises.{AcceptedIsSound}
-use Rattle.box_rules.proofs.Plans.{may-use}
+use Rattle.plan_rules.specs.laws.Runs.{may-use}
 use Rattle.box_rules.proofs.Turns.{outlives}
 use Rattle.box_rules.proofs.Invariant.{AtWork, AllAtWork, Inv, older-at-work, turned-at-work, reached-inv}
 

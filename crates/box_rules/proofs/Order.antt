@@ -24,7 +24,7 @@ use Rattle.box_rules.specs.Records.{Record, recordBytes, plain, full, wa
 use Rattle.lists.specs.Order.{Rising}
 use Rattle.box_rules.specs.Promises.{isStartOf, stage, rank, RecordsInOrder, OncePerVisit}
 use Rattle.plan_rules.specs.Promises.{AcceptedIsSound}
-use Rattle.box_rules.proofs.Plans.{initiator-below}
+use Rattle.plan_rules.specs.laws.Initiators.{initiator-below}
 use Rattle.box_rules.proofs.Turns.{begins}
 use Rattle.box_rules.proofs.Steps.{records-cases}
 use Rattle.box_rules.proofs.Invariant.{reached-inv}

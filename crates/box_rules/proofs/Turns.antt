@@ -11,7 +11,7 @@ use Rattle.lists.specs.Place.{Found, first, without}
 use Rattle.lists.specs.laws.Bools.{none-some, some-some, not-some}
 use Rattle.plan_rules.specs.Plan.{Entry, Plan}
 use Rattle.plan_rules.specs.Meaning.{entryAt}
-use Rattle.box_rules.proofs.Plans.{StandsAt, entry-at}
+use Rattle.plan_rules.specs.laws.Runs.{StandsAt, entry-at}
 use Rattle.box_rules.specs.State.{Side, Live, Request}
 use Rattle.box_rules.specs.Turn.{Start, valueOf, isLate, older, survives, aged, visited, allows, startAt, starting, fresh, begun, startOf, turned}
 

@@ -21,7 +21,7 @@ use Rattle.box_rules.specs.Records.{Record, full, startRecord, stillReco
 use Rattle.box_rules.specs.Step.{accepts, Outcome, withSide, ticked}
 use Rattle.box_rules.specs.Promises.{isStartOf, AtAnEntry, StartsOnlyAtEntries, LiveByRecordOnly}
 use Rattle.plan_rules.specs.Promises.{AcceptedIsSound}
-use Rattle.box_rules.proofs.Plans.{its-initiator}
+use Rattle.plan_rules.specs.laws.Runs.{its-initiator}
 use Rattle.box_rules.proofs.Turns.{Outlives, begins, live-cases}
 use Rattle.box_rules.proofs.Steps.{step-cases, live-kept, records-cases}
 use Rattle.box_rules.proofs.Invariant.{reached-inv}

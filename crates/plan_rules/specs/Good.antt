@@ -17,17 +17,17 @@ use Rattle.plan_rules.specs.Canon.{items, written}
 abbrev pub Bytes : List ℕ → Type 0
 Bytes s = (n : ℕ) → nth s n < 256
 
-unfoldable pub sameDevice : Device → Device → Bool
-sameDevice c d = eqb (c .num) (d .num)
+unfoldable pub sameDeviceNumber : Device → Device → Bool
+sameDeviceNumber c d = eqb (c .num) (d .num)
 
-unfoldable pub sameLink : Link → Link → Bool
-sameLink l m = eqb (l .num) (m .num)
+unfoldable pub sameLinkNumber : Link → Link → Bool
+sameLinkNumber l m = eqb (l .num) (m .num)
 
-unfoldable pub sameRoute : Route → Route → Bool
-sameRoute x y = eqb (x .initiator) (y .initiator) && eqb (x .target) (y .target)
+unfoldable pub samePathEnds : Route → Route → Bool
+samePathEnds x y = eqb (x .initiator) (y .initiator) && eqb (x .target) (y .target)
 
-unfoldable pub sameEntry : Entry → Entry → Bool
-sameEntry e f = eqb (e .initiator) (f .initiator) && eqb (e .slot) (f .slot)
+unfoldable pub sameEntryPlace : Entry → Entry → Bool
+sameEntryPlace e f = eqb (e .initiator) (f .initiator) && eqb (e .slot) (f .slot)
 
 -- every item of the plan passes the test
 abbrev pub Each : Plan → (Item → Bool) → Bool → Type 0
@@ -41,10 +41,10 @@ pub record Good (p : Plan) : Type 0 where
   -- 6
   pub ranges : Each p outOfRange false
   -- 7
-  pub devices : repeats sameDevice (p .devices) ≡ false
-  pub links : repeats sameLink (p .links) ≡ false
-  pub paths : repeats sameRoute (p .paths) ≡ false
-  pub entries : repeats sameEntry (p .entries) ≡ false
+  pub devices : repeats sameDeviceNumber (p .devices) ≡ false
+  pub links : repeats sameLinkNumber (p .links) ≡ false
+  pub paths : repeats samePathEnds (p .paths) ≡ false
+  pub entries : repeats sameEntryPlace (p .entries) ≡ false
   pub targets : (e : Entry) → List·Memᴰ e (p .entries) → twice (e .targets) ≡ false
   -- 8
   pub known : Each p (notGiven p) false

@@ -20,6 +20,7 @@ pub mod Ordered
 pub mod Reads
 pub mod Size
 pub mod GoodSound
+pub mod Runs
 pub mod Same
 pub mod SameVerdict
 pub mod SameItems

@@ -14,7 +14,7 @@ use Rattle.lists.specs.laws.Order.{order-shuffled, orders-shuffled, order-same,
 use Rattle.plan_rules.specs.Plan.{Link, Entry, Plan}
 use Rattle.plan_rules.specs.Judge.{outOfRange}
 use Rattle.plan_rules.specs.Canon.{smallFirst, rising, withRising, canonical, SameLink, SameEntry, SamePlan}
-use Rattle.plan_rules.specs.Good.{Good, Each, sameDevice, sameLink, sameRoute, sameEntry}
+use Rattle.plan_rules.specs.Good.{Good, Each, sameDeviceNumber, sameLinkNumber, samePathEnds, sameEntryPlace}
 use Rattle.plan_rules.specs.laws.Same.{link-refl, entry-refl, plan-sym, plan-trans, same-ends}
 use Rattle.plan_rules.specs.laws.SameItems.{good-same}
 use Rattle.plan_rules.specs.laws.InRange.{device-ranged, link-ranged, path-ranged, entry-ranged}
@@ -73,7 +73,7 @@ good-canonical p g = good-same (same-canonical p g) g
 
 -- plans that are the same have one canonical plan, where no number and no pair of numbers is there twice in one of them
 pub canonical-same : (p q : Plan) → Good p → SamePlan p q → canonical p ≡ canonical q
-unfolding canonical sameDevice sameLink sameRoute sameEntry
+unfolding canonical sameDeviceNumber sameLinkNumber samePathEnds sameEntryPlace
 canonical-same p q g s = rw (
   order-same (s .devices) (λ d. d .num) (g .devices),
   order-shuffled link-refl smallFirst smallFirst-respects (λ l. l .num) (λ l m h. h .num) (s .links) (g .links),

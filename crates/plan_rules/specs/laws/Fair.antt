@@ -16,7 +16,7 @@ use Rattle.plan_rules.specs.Fields.{tags, tagOf, comesOnce, tagFor}
 use Rattle.plan_rules.specs.Meaning.{isInitiator, initiators}
 use Rattle.plan_rules.specs.Judge.{outOfRange, givenBefore, notGiven, noWalk, noPath}
 use Rattle.plan_rules.specs.Canon.{items}
-use Rattle.plan_rules.specs.Good.{sameDevice, sameLink, sameRoute, sameEntry, Each}
+use Rattle.plan_rules.specs.Good.{sameDeviceNumber, sameLinkNumber, samePathEnds, sameEntryPlace, Each}
 use Rattle.plan_rules.specs.laws.Lengths.{Sized}
 use Rattle.plan_rules.specs.laws.Items.{UpTo, items-grow, no-timings}
 use Rattle.plan_rules.specs.laws.Growth.{Within, grow-within, known-grows, walk-grows, reach-grows}
@@ -26,19 +26,19 @@ use Rattle.plan_rules.specs.laws.Chain.{InOrder, no-fall, Passes, Follow
 
 -- of the paths
 pub record FairPaths (p : Plan) : Type 0 where
-  pub once : repeats sameRoute (p .paths) ≡ false
+  pub once : repeats samePathEnds (p .paths) ≡ false
   pub eight : length (initiators p) ≤ 8
   pub most : length (p .paths) ≤ 128
 
 -- of the entries
 pub record FairEntries (es : List Entry) : Type 0 where
-  pub once : repeats sameEntry es ≡ false
+  pub once : repeats sameEntryPlace es ≡ false
   pub targets : (e : Entry) → List·Memᴰ e es → twice (e .targets) ≡ false
 
 -- of each list by itself
 pub record FairLists (p : Plan) : Type 0 where
-  pub devices : repeats sameDevice (p .devices) ≡ false
-  pub links : repeats sameLink (p .links) ≡ false
+  pub devices : repeats sameDeviceNumber (p .devices) ≡ false
+  pub links : repeats sameLinkNumber (p .links) ≡ false
   pub paths : FairPaths p
   pub entries : FairEntries (p .entries)
   pub timings : length (p .timings) ≤ 1
@@ -52,28 +52,28 @@ pub record Fair (p : Plan) : Type 0 where
   pub lists : FairLists p
 
 module _ (p : Plan) (old : FairLists p) where
-  more-devices : (d : Device) → givenBefore p (device d) ≡ false → repeats sameDevice (p .devices ++ (d ∷ [])) ≡ false
-  more-devices d h = once-more sameDevice (p .devices) d (old .devices) (sym (given-device p d) ∙ h)
+  more-devices : (d : Device) → givenBefore p (device d) ≡ false → repeats sameDeviceNumber (p .devices ++ (d ∷ [])) ≡ false
+  more-devices d h = once-more sameDeviceNumber (p .devices) d (old .devices) (sym (given-device p d) ∙ h)
 
-  more-links : (l : Link) → givenBefore p (link l) ≡ false → repeats sameLink (p .links ++ (l ∷ [])) ≡ false
-  more-links l h = once-more sameLink (p .links) l (old .links) (sym (given-link p l) ∙ h)
+  more-links : (l : Link) → givenBefore p (link l) ≡ false → repeats sameLinkNumber (p .links ++ (l ∷ [])) ≡ false
+  more-links l h = once-more sameLinkNumber (p .links) l (old .links) (sym (given-link p l) ∙ h)
 
   more-paths : (x : Route) → Passes p (path x) → FairPaths (grow p (path x))
   unfolding grow
   more-paths x h = record {
-    once = once-more sameRoute (p .paths) x (old .paths .once) (sym (given-path p x) ∙ h .new);
+    once = once-more samePathEnds (p .paths) x (old .paths .once) (sym (given-path p x) ∙ h .new);
     eight = eight-grows p x (h .few) (old .paths .eight);
     most = simp length-append (omega (arith, most-grows p x (h .few)));
   }
 
   more-entries : (e : Entry) → givenBefore p (entry e) ≡ false → FairEntries (p .entries ++ (e ∷ []))
   more-entries e h = record {
-    once = once-more sameEntry (p .entries) e (old .entries .once) (n .0);
+    once = once-more sameEntryPlace (p .entries) e (old .entries .once) (n .0);
     targets = λ f m. go f (List·Memᴰ·append-cases (p .entries) m);
   }
     where
-      n : (any (λ (f : Entry). sameEntry f e) (p .entries) ≡ false) × (twice (e .targets) ≡ false)
-      n = neither (any (λ (f : Entry). sameEntry f e) (p .entries)) (twice (e .targets)) (sym (given-entry p e) ∙ h)
+      n : (any (λ (f : Entry). sameEntryPlace f e) (p .entries) ≡ false) × (twice (e .targets) ≡ false)
+      n = neither (any (λ (f : Entry). sameEntryPlace f e) (p .entries)) (twice (e .targets)) (sym (given-entry p e) ∙ h)
 
       go : (f : Entry) → List·Memᴰ f (p .entries) ⊎ List·Memᴰ f (e ∷ []) → twice (f .targets) ≡ false
       go f (inl m) = old .entries .targets f m

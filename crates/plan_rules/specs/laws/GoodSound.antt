@@ -15,7 +15,7 @@ use Rattle.lists.specs.laws.Append.{repeats-one}
 use Rattle.plan_rules.specs.Plan.{Entry, Plan, entry}
 use Rattle.plan_rules.specs.Meaning.{isInitiator, hasPath, leadsFrom, mayUse, runsInto}
 use Rattle.plan_rules.specs.Judge.{noPath}
-use Rattle.plan_rules.specs.Good.{Good, sameEntry}
+use Rattle.plan_rules.specs.Good.{Good, sameEntryPlace}
 use Rattle.plan_rules.specs.laws.Ranges.{EntryRange}
 use Rattle.plan_rules.specs.laws.Lengths.{entry-length}
 use Rattle.plan_rules.specs.laws.Items.{entry-in}
@@ -48,7 +48,7 @@ module _ (p : Plan) (good : Good p) where
       go (t ∷ ts) h = path-initiator p (e .initiator) t (good-path e t m (rw h (List·Memᴰ·head refl)))
 
   pub good-sound : Sound p
-  unfolding sameEntry
+  unfolding sameEntryPlace
   good-sound = record {
     initiator = good-initiator;
     below = λ e m. (good-entry e m) .initiator;
@@ -61,11 +61,11 @@ module _ (p : Plan) (good : Good p) where
     eight = good .eight;
   }
     where
-      same : (e f : Entry) → e .initiator ≡ f .initiator → e .slot ≡ f .slot → sameEntry e f ≡ true
+      same : (e f : Entry) → e .initiator ≡ f .initiator → e .slot ≡ f .slot → sameEntryPlace e f ≡ true
       same e f a b = true-both (eq-eqb (e .initiator) (f .initiator) a) (eq-eqb (e .slot) (f .slot) b)
 
       one : (e f : Entry) → List·Memᴰ e (p .entries) → List·Memᴰ f (p .entries) → e .initiator ≡ f .initiator → e .slot ≡ f .slot → e ≡ f
-      one e f m n a b = repeats-one sameEntry (p .entries) e f (good .entries) m n (same e f a b) (same f e (sym a) (sym b))
+      one e f m n a b = repeats-one sameEntryPlace (p .entries) e f (good .entries) m n (same e f a b) (same f e (sym a) (sym b))
 
       -- an entry that runs into another is an overrun
       apart-from : (e f : Entry) → List·Memᴰ e (p .entries) → List·Memᴰ f (p .entries) → (b : Bool) → runsInto e f ≡ b → runsInto e f ≡ false

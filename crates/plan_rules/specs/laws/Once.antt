@@ -7,20 +7,20 @@ use Rattle.lists.specs.laws.Append.{eqb-sym}
 use Rattle.plan_rules.specs.Plan.{Device, Link, Route, Entry, Plan, device, link, path, entry}
 use Rattle.plan_rules.specs.Meaning.{isDevice, isLink, hasPath, leadsFrom, standsAt}
 use Rattle.plan_rules.specs.Judge.{givenBefore}
-use Rattle.plan_rules.specs.Good.{sameDevice, sameLink, sameRoute, sameEntry}
+use Rattle.plan_rules.specs.Good.{sameDeviceNumber, sameLinkNumber, samePathEnds, sameEntryPlace}
 
-pub given-device : (p : Plan) (d : Device) → givenBefore p (device d) ≡ any (λ (c : Device). sameDevice c d) (p .devices)
-unfolding givenBefore isDevice sameDevice
+pub given-device : (p : Plan) (d : Device) → givenBefore p (device d) ≡ any (λ (c : Device). sameDeviceNumber c d) (p .devices)
+unfolding givenBefore isDevice sameDeviceNumber
 given-device p d = any-same _ _ (p .devices) (λ c _. eqb-sym (d .num) (c .num))
 
-pub given-link : (p : Plan) (l : Link) → givenBefore p (link l) ≡ any (λ (m : Link). sameLink m l) (p .links)
-unfolding givenBefore isLink sameLink
+pub given-link : (p : Plan) (l : Link) → givenBefore p (link l) ≡ any (λ (m : Link). sameLinkNumber m l) (p .links)
+unfolding givenBefore isLink sameLinkNumber
 given-link p l = any-same _ _ (p .links) (λ m _. eqb-sym (l .num) (m .num))
 
-pub given-path : (p : Plan) (x : Route) → givenBefore p (path x) ≡ any (λ (y : Route). sameRoute y x) (p .paths)
-unfolding givenBefore hasPath leadsFrom sameRoute
+pub given-path : (p : Plan) (x : Route) → givenBefore p (path x) ≡ any (λ (y : Route). samePathEnds y x) (p .paths)
+unfolding givenBefore hasPath leadsFrom samePathEnds
 given-path p x = any-same _ _ (p .paths) (λ y _. rw (eqb-sym (x .initiator) (y .initiator), eqb-sym (x .target) (y .target)))
 
-pub given-entry : (p : Plan) (e : Entry) → givenBefore p (entry e) ≡ any (λ (f : Entry). sameEntry f e) (p .entries) || twice (e .targets)
-unfolding givenBefore standsAt sameEntry
+pub given-entry : (p : Plan) (e : Entry) → givenBefore p (entry e) ≡ any (λ (f : Entry). sameEntryPlace f e) (p .entries) || twice (e .targets)
+unfolding givenBefore standsAt sameEntryPlace
 given-entry p e = ap (λ (b : Bool). b || twice (e .targets)) (any-same _ _ (p .entries) (λ f _. rw (eqb-sym (e .initiator) (f .initiator), eqb-sym (e .slot) (f .slot))))

@@ -14,7 +14,7 @@ use Rattle.plan_rules.specs.Plan.{Device, Link, Route, Entry, Timing, Pl
 use Rattle.plan_rules.specs.Fields.{tags, tagOf, comesOnce, tagFor}
 use Rattle.plan_rules.specs.Judge.{givenBefore, tooMany}
 use Rattle.plan_rules.specs.Canon.{items}
-use Rattle.plan_rules.specs.Good.{Good, sameDevice, sameLink, sameRoute, sameEntry}
+use Rattle.plan_rules.specs.Good.{Good, sameDeviceNumber, sameLinkNumber, samePathEnds, sameEntryPlace}
 use Rattle.plan_rules.specs.laws.Ranges.{route-range}
 use Rattle.plan_rules.specs.laws.Lengths.{Sized}
 use Rattle.plan_rules.specs.laws.Items.{device-in, link-in, path-in, entry-in, timing-in}
@@ -82,7 +82,7 @@ module _ (p : Plan) (good : Good p) where
       fine : (ds : List Device) (d : Device) → Begins (ds ++ (d ∷ [])) (p .devices) → Sized (device d) × Passes (devicesOnly ds) (device d)
       fine ds d b = fine-item (devicesOnly ds) (device d) (device-in p d (begins-last ds d b))
           (record { devices = λ h. absurd (omega arith); links = λ h. absurd (omega arith); paths = λ h. absurd (omega arith) })
-          (given-device (devicesOnly ds) d ∙ once-before sameDevice ds d (p .devices) b (good .devices)) refl
+          (given-device (devicesOnly ds) d ∙ once-before sameDeviceNumber ds d (p .devices) b (good .devices)) refl
 
   link-stage : (before : ℕ) → before ≤ 1 → Led (plusLinks p []) before (map link (p .links)) (plusLinks p (p .links)) 2
   unfolding tagFor grow comesOnce tagOf tags find tooMany
@@ -91,7 +91,7 @@ module _ (p : Plan) (good : Good p) where
       fine : (ls : List Link) (l : Link) → Begins (ls ++ (l ∷ [])) (p .links) → Sized (link l) × Passes (plusLinks p ls) (link l)
       fine ls l b = fine-item (plusLinks p ls) (link l) (link-in p l (begins-last ls l b))
           (record { devices = λ _. begins-self (p .devices); links = λ h. absurd (omega arith); paths = λ h. absurd (omega arith) })
-          (given-link (plusLinks p ls) l ∙ once-before sameLink ls l (p .links) b (good .links)) refl
+          (given-link (plusLinks p ls) l ∙ once-before sameLinkNumber ls l (p .links) b (good .links)) refl
 
   path-stage : (before : ℕ) → before ≤ 2 → Led (plusPaths p []) before (map path (p .paths)) (plusPaths p (p .paths)) 3
   unfolding tagFor grow comesOnce tagOf tags find
@@ -102,7 +102,7 @@ module _ (p : Plan) (good : Good p) where
           let m = path-in p x (begins-last xs x b) in
           fine-item (plusPaths p xs) (path x) m
           (record { devices = λ _. begins-self (p .devices); links = λ _. begins-self (p .links); paths = λ h. absurd (omega arith) })
-          (given-path (plusPaths p xs) x ∙ once-before sameRoute xs x (p .paths) b (good .paths))
+          (given-path (plusPaths p xs) x ∙ once-before samePathEnds xs x (p .paths) b (good .paths))
           (few-before (plusPaths p xs) p x ((route-range x (good .ranges (path x) m)) .initiator) b (good .eight) (good .most))
 
   entry-stage : (before : ℕ) → before ≤ 3 → Led (plusEntries p []) before (map entry (p .entries)) (plusEntries p (p .entries)) 4
@@ -114,7 +114,7 @@ module _ (p : Plan) (good : Good p) where
           let m = begins-last es e b in
           fine-item (plusEntries p es) (entry e) (entry-in p e m)
           (record { devices = λ _. begins-self (p .devices); links = λ _. begins-self (p .links); paths = λ _. begins-self (p .paths) })
-          (given-entry (plusEntries p es) e ∙ false-either (once-before sameEntry es e (p .entries) b (good .entries)) (good .targets e m)) refl
+          (given-entry (plusEntries p es) e ∙ false-either (once-before sameEntryPlace es e (p .entries) b (good .entries)) (good .targets e m)) refl
 
   timing-stage : (before : ℕ) → before ≤ 4 → Led (plusEntries p (p .entries)) before (map timing (p .timings)) p 5
   unfolding tagFor grow givenBefore tooMany

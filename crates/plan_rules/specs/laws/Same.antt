@@ -15,7 +15,7 @@ use Rattle.lists.specs.laws.Order.{one-key}
 use Rattle.plan_rules.specs.Plan.{Link, Entry, Plan}
 use Rattle.plan_rules.specs.Meaning.{isDevice, hasKind, isNode, isRouter, isLink, isInitiator, initiators, hasPath, across, leads, walks, isWalk, uses, covers, standsAt, reaches, mayUse, isAtWork, runsInto, overruns}
 use Rattle.plan_rules.specs.Canon.{SameLink, SameEntry, SamePlan}
-use Rattle.plan_rules.specs.Good.{sameLink}
+use Rattle.plan_rules.specs.Good.{sameLinkNumber}
 
 -- what is the same: each link and each entry to itself, all of them both ways round, plans through a third
 pub link-refl : (l : Link) → SameLink l l
@@ -115,9 +115,9 @@ module _ {p q : Plan} (s : SamePlan p q) where
   same-uses i t l = any-shuffled _ (eq-respects _) (s .paths)
 
   -- where no link number is there twice
-  module _ (u : repeats sameLink (p .links) ≡ false) where
+  module _ (u : repeats sameLinkNumber (p .links) ≡ false) where
     pub same-leads : (n d : ℕ) → leads p n d ≡ leads q n d
-    unfolding leads sameLink
+    unfolding leads sameLinkNumber
     same-leads n d = by (find t (p .links)) ∙ ap flat found ∙ sym (by (find t (q .links)))
       where
         t : Link → Bool

@@ -14,7 +14,7 @@ use Rattle.plan_rules.specs.Fields.{tagFor, contentFor, fieldFor}
 use Rattle.plan_rules.specs.Meaning.{isDevice, isNode, hasPath}
 use Rattle.plan_rules.specs.Judge.{over63, outOfRange, notGiven, noWalk, noPath}
 use Rattle.plan_rules.specs.Canon.{items, written, SameLink, SameEntry, SamePlan}
-use Rattle.plan_rules.specs.Good.{Good, Each, sameDevice, sameLink, sameRoute, sameEntry}
+use Rattle.plan_rules.specs.Good.{Good, Each, sameDeviceNumber, sameLinkNumber, samePathEnds, sameEntryPlace}
 use Rattle.plan_rules.specs.laws.Same.{link-refl, entry-refl, same-ends, same-isDevice, same-isNode, same-isLink, same-hasPath, same-isWalk, same-initiators}
 use Rattle.plan_rules.specs.laws.SameVerdict.{same-overrun, same-clash}
 
@@ -96,7 +96,7 @@ module _ {p q : Plan} (s : SamePlan p q) where
   same-noPath x y (entries {e = a} {f = b} e) = rw (e .initiator, fun-ext (same-hasPath s (b .initiator)), all-shuffled (hasPath q (b .initiator)) (eq-respects _) (e .targets))
   same-noPath x y (timings e) = refl
 
-  pub same-noWalk : repeats sameLink (p .links) ≡ false → (x y : Item) → SameItem x y → noWalk p x ≡ noWalk q y
+  pub same-noWalk : repeats sameLinkNumber (p .links) ≡ false → (x y : Item) → SameItem x y → noWalk p x ≡ noWalk q y
   unfolding noWalk
   same-noWalk u x y (devices e) = refl
   same-noWalk u x y (links e) = refl
@@ -113,7 +113,7 @@ module _ {p q : Plan} (s : SamePlan p q) where
 
 -- a plan that is the same as a good one is good
 pub good-same : {p q : Plan} → SamePlan p q → Good p → Good q
-unfolding twice sameDevice sameLink sameRoute sameEntry
+unfolding twice sameDeviceNumber sameLinkNumber samePathEnds sameEntryPlace
 good-same {p} {q} s g = record {
   short = rw (← same-length s) (g .short);
   lengths = same-each s _ _ true (λ x y h. rw (same-tag x y h, same-size x y h)) (g .lengths);

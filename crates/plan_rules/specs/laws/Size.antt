@@ -11,7 +11,7 @@ use Rattle.plan_rules.specs.Plan.{Device, Link, Entry, Plan, Item, devic
 use Rattle.plan_rules.specs.Fields.{contentFor, fieldFor, fourBytes}
 use Rattle.plan_rules.specs.Meaning.{initiators}
 use Rattle.plan_rules.specs.Canon.{items, written}
-use Rattle.plan_rules.specs.Good.{Good, sameDevice, sameLink, sameEntry}
+use Rattle.plan_rules.specs.Good.{Good, sameDeviceNumber, sameLinkNumber, sameEntryPlace}
 use Rattle.plan_rules.specs.laws.Ranges.{device-range, link-range}
 use Rattle.plan_rules.specs.laws.Lengths.{path-length, entry-length}
 use Rattle.plan_rules.specs.laws.Items.{device-in, link-in, path-in, entry-in}
@@ -24,20 +24,20 @@ fields-most make most xs h = rw length-map at (flat-most fieldFor most (map make
 
 module _ (p : Plan) (good : Good p) where
   pub most-devices : length (p .devices) ≤ 64
-  unfolding sameDevice
-  most-devices = below64-most sameDevice (λ (d : Device). d .num) (p .devices) (λ c d e. eq-eqb (c .num) (d .num) e) (λ d m. (device-range d (good .ranges (device d) (device-in p d m))) .num) (good .devices)
+  unfolding sameDeviceNumber
+  most-devices = below64-most sameDeviceNumber (λ (d : Device). d .num) (p .devices) (λ c d e. eq-eqb (c .num) (d .num) e) (λ d m. (device-range d (good .ranges (device d) (device-in p d m))) .num) (good .devices)
 
   pub most-links : length (p .links) ≤ 64
-  unfolding sameLink
-  most-links = below64-most sameLink (λ (l : Link). l .num) (p .links) (λ l m e. eq-eqb (l .num) (m .num) e) (λ l m. (link-range l (good .ranges (link l) (link-in p l m))) .num) (good .links)
+  unfolding sameLinkNumber
+  most-links = below64-most sameLinkNumber (λ (l : Link). l .num) (p .links) (λ l m e. eq-eqb (l .num) (m .num) e) (λ l m. (link-range l (good .ranges (link l) (link-in p l m))) .num) (good .links)
 
   pub most-entries : length (p .entries) ≤ 512
-  unfolding sameEntry
+  unfolding sameEntryPlace
   most-entries =
       omega (
         arith,
         good .eight,
-        pairs-most sameEntry (λ (e : Entry). e .initiator) (λ (e : Entry). e .slot) (p .entries) (initiators p)
+        pairs-most sameEntryPlace (λ (e : Entry). e .initiator) (λ (e : Entry). e .slot) (p .entries) (initiators p)
             (λ e f i s. true-both (eq-eqb (e .initiator) (f .initiator) i) (eq-eqb (e .slot) (f .slot) s))
             (λ e m. in-initiators p (e .initiator) ((good-entry p good e m) .initiator) (good-initiator p good e m))
             (λ e m. (good-entry p good e m) .slot) (good .entries),

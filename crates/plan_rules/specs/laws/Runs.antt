@@ -1,20 +1,21 @@
--- What a sound plan says to the box, in the words that the other proofs use: entries at a slot, slots that an entry covers, links that
--- may be used there, initiators.
+-- What a sound plan says to whoever runs it: entries at a slot, slots that an entry covers, links that may be used there, initiators.
 use mathlib.Core.Path.{_≡_, refl, sym, ap, _∙_}
 use mathlib.Core.Logic.{_≢_}
 use mathlib.Core.List.{List, List·Memᴰ, List·Memᴰ·not-nil}
 use mathlib.Core.Option.{some}
-use mathlib.Core.Bool.{true, not}
+use mathlib.Core.Bool.{true}
 use Prim.Native.Nat.{ℕ, _+_, _-_, _%_, _<_}
 use native.Mathlib.Omega.{arith}
-use lib.Dec.{eqb}
-use borrow.Author.Tests.{eqb-true, eq-eqb, ne-eqb, lt-ltb}
+use borrow.Author.Tests.{lt-ltb}
 use Rattle.lists.specs.Search.{any, isIn, below64}
-use Rattle.lists.specs.laws.Bools.{both-true, true-both, not-both}
-use Rattle.lists.specs.laws.Search.{any-intro, find-some, find-has, keep-intro, keep-elim, keep-none, in-below64, below64-range, isIn-elim}
+use Rattle.lists.specs.laws.Bools.{both-true, not-both}
+use Rattle.lists.specs.laws.Search.{find-some, find-has, keep-none, isIn-elim}
 use Rattle.plan_rules.specs.Plan.{Entry, Plan, blank}
-use Rattle.plan_rules.specs.Meaning.{isInitiator, initiators, uses, covers, fits, permits, standsAt, entryAt, reaches, mayUse, runsInto}
+use Rattle.plan_rules.specs.Meaning.{isInitiator, initiators, uses, covers, fits, permits, standsAt, entryAt, mayUse, runsInto}
 use Rattle.plan_rules.specs.laws.Sound.{Sound}
+use Rattle.plan_rules.specs.laws.Initiators.{in-initiators}
+use Rattle.plan_rules.specs.laws.Overruns.{stands-at, runs-into}
+use Rattle.plan_rules.specs.laws.Clashes
 
 -- the entry of initiator i at slot v
 pub record StandsAt (es : List Entry) (i v : ℕ) (e : Entry) : Type 0 where
@@ -23,31 +24,26 @@ pub record StandsAt (es : List Entry) (i v : ℕ) (e : Entry) : Type 0 where
   pub slot : e .slot ≡ v
 
 pub entry-at : (es : List Entry) (i v : ℕ) (e : Entry) → entryAt es i v ≡ some e → StandsAt es i v e
-unfolding entryAt standsAt
+unfolding entryAt
 entry-at es i v e h =
     let f = find-some (standsAt i v) es e h in
-    let ab = both-true (eqb i (e .initiator)) (eqb v (e .slot)) (f .1) in
-    record { has = f .0; own = sym (eqb-true i (e .initiator) (ab .0)); slot = sym (eqb-true v (e .slot) (ab .1)) }
+    let (own, slot) = (stands-at i v e) .0 (f .1) in
+    record { has = f .0; own = sym own; slot = sym slot }
 
 -- what is permitted goes to a target of the entry
 pub permits-target : (p : Plan) (e : Entry) (t n : ℕ) → permits p e t n ≡ true → List·Memᴰ t (e .targets)
 unfolding permits
 permits-target p e t n h = isIn-elim t (e .targets) ((both-true (isIn t (e .targets)) (fits p e t n) h) .0)
 
-pub initiator-below : (p : Plan) (i : ℕ) → List·Memᴰ i (initiators p) → i < 64
-unfolding initiators
-initiator-below p i m = below64-range i ((keep-elim (isInitiator p) below64 i m) .0)
-
 module _ (p : Plan) (ok : Sound p) (e : Entry) (me : List·Memᴰ e (p .entries)) where
   pub its-initiator : List·Memᴰ (e .initiator) (initiators p)
-  unfolding initiators
-  its-initiator = keep-intro (isInitiator p) below64 (e .initiator) (in-below64 (e .initiator) (ok .below e me)) (ok .initiator e me)
+  its-initiator = in-initiators p (e .initiator) (ok .below e me) (ok .initiator e me)
 
   -- the search for an entry finds it
   pub found-at : entryAt (p .entries) (e .initiator) (e .slot) ≡ some e
-  unfolding entryAt standsAt
+  unfolding entryAt
   found-at =
-      let here = true-both (eq-eqb (e .initiator) (e .initiator) refl) (eq-eqb (e .slot) (e .slot) refl) in
+      let here = (stands-at (e .initiator) (e .slot) e) .1 (refl, refl) in
       let (f, is) = find-has (standsAt (e .initiator) (e .slot)) (p .entries) e me here in
       let s = entry-at (p .entries) (e .initiator) (e .slot) f is in
       is ∙ ap some (ok .unique f e (s .has) me (s .own) (s .slot))
@@ -60,20 +56,16 @@ module _ (p : Plan) (ok : Sound p) (e : Entry) (me : List·Memᴰ e (p .entries)
   -- there its initiator may use the links of its targets
   pub may-use : (t l n : ℕ) → List·Memᴰ t (e .targets) → uses p (e .initiator) t l ≡ true → n < e .span
       → mayUse p (p .entries) ((e .slot + n) % 64) (e .initiator) l ≡ true
-  unfolding mayUse reaches
   may-use t l n m u h =
-      let i = e .initiator in
-      any-intro (reaches p ((e .slot + n) % 64) i l) (p .entries) e me
-      (true-both (true-both (eq-eqb i i refl) (covers-on n h)) (any-intro (λ (t : ℕ). uses p i t l) (e .targets) t m u))
+      (Clashes.may-use p (p .entries) ((e .slot + n) % 64) (e .initiator) l) .1
+      (record { entry = e; has = me; own = refl; over = covers-on n h; target = t; aims = m; on = u })
 
   -- and no other entry of its initiator stands there
   pub no-entry-after : (f : Entry) → List·Memᴰ f (p .entries) → e .initiator ≡ f .initiator → (n : ℕ) → 0 < n → n < e .span → f .slot ≢ (e .slot + n) % 64
-  unfolding runsInto
   no-entry-after f mf same n low h at =
       let other : e .slot ≢ f .slot = λ z. omega (arith, ok .slots e me, ok .spans e me) in
-      let apart : not (eqb (e .slot) (f .slot)) ≡ true = rw (ne-eqb (e .slot) (f .slot) other) in
       let over : covers e (f .slot) ≡ true = rw at (covers-on n h) in
-      not-both (true-both (true-both (eq-eqb (e .initiator) (f .initiator) same) apart) over) (ok .no-overrun e f me mf)
+      not-both ((runs-into e f) .1 (same, other, over)) (ok .no-overrun e f me mf)
 
 -- the plan with nothing in it, which stands for none
 pub sound-blank : Sound blank
