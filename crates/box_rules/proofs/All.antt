@@ -1,7 +1,7 @@
 -- All promises, from what an accepted file gives.
 use Rattle.box_rules.specs.Promises.{Promises}
 use Rattle.plan_rules.specs.Promises.{AcceptedIsSound}
-use Rattle.box_rules.proofs.Refusals.{refused-event, refused-load}
+use Rattle.box_rules.proofs.Refusals.{refused-event, refused-load, clear-is-never-loaded}
 use Rattle.box_rules.proofs.Links.{links-never-shared, not-even-between}
 use Rattle.box_rules.proofs.Places.{this-very-request, joins-as-asked}
 use Rattle.box_rules.proofs.InTime.{requests-start-in-time}
@@ -12,6 +12,7 @@ pub promised : AcceptedIsSound → Promises
 promised ok = record {
   refused-event = refused-event;
   refused-load = refused-load;
+  clear = clear-is-never-loaded;
   links = links-never-shared ok;
   between = not-even-between ok;
   in-time = requests-start-in-time ok;

@@ -1,6 +1,5 @@
 -- A request is followed by its place in the line: where it waits it is still this one, and where it starts it is this one that starts.
 use mathlib.Core.Path.{_≡_, refl, sym, ap, _∙_}
-use mathlib.Core.List.{List·Memᴰ}
 use mathlib.Core.Option.{Option, none, some}
 use mathlib.Core.Bool.{Bool, true, false, cond}
 use Prim.Native.Nat.{ℕ, _-_, _≤_}
@@ -16,10 +15,9 @@ use Rattle.box_rules.specs.declared.Event.{Event}
 use Rattle.box_rules.specs.declared.Event.the-variants.{TimeCode, Request, Reply, Reading}
 use Rattle.box_rules.specs.declared.Watchdog.{Watchdog}
 use Rattle.box_rules.specs.State as state
-use Rattle.box_rules.specs.State.{Box, Side, Live, thePlan}
+use Rattle.box_rules.specs.State.{Box, Side, thePlan}
 use Rattle.box_rules.specs.Refuse.{refusal}
 use Rattle.box_rules.specs.Turn.{Start, inSequence, valueOf, asked, join, finish, aged, allows, fresh, startOf, turned}
-use Rattle.box_rules.specs.Records.{full}
 use Rattle.box_rules.specs.Step.{step, accepts, Outcome, withSide, ticked}
 use Rattle.box_rules.specs.History.{Fate, starts, waits, leaving, left, fate}
 use Rattle.box_rules.specs.Promises.{HasStarted, ThisOne, ThisVeryRequest, JoinsAsAsked}

@@ -1,9 +1,12 @@
--- A refused event changes nothing, and a refused load is a clear.
+-- A refused event changes nothing, a refused load is a clear, and a clear is a box never loaded.
+use mathlib.Core.Path.{_≡_, refl, ap, _∙_, sym, fun-ext}
+use Prim.Native.Nat.{ℕ}
 use borrow.Author.Tests.{ne-eqb}
 use Rattle.plan_rules.specs.Verdict.{number}
 use Rattle.plan_rules.specs.Judge.{judge}
-use Rattle.box_rules.specs.State.{loaded, watchdogLoaded, isAccepted}
-use Rattle.box_rules.specs.Promises.{RefusedEventChangesNothing, RefusedLoadIsAClear}
+use Rattle.box_rules.specs.declared.Watchdog.{Watchdog}
+use Rattle.box_rules.specs.State.{Box, Side, idle, cleared, watchdogCleared, loaded, watchdogLoaded, isAccepted}
+use Rattle.box_rules.specs.Promises.{RefusedEventChangesNothing, RefusedLoadIsAClear, NeverLoaded, ClearIsNeverLoaded}
 use Rattle.box_rules.proofs.Steps.{step-refused}
 
 pub refused-event : RefusedEventChangesNothing
@@ -13,3 +16,18 @@ refused-event room b w e h = step-refused room b w e h
 pub refused-load : RefusedLoadIsAClear
 unfolding RefusedLoadIsAClear loaded watchdogLoaded isAccepted
 refused-load file h = let no-plan = ne-eqb (number (judge file)) 0 h in (rw no-plan, rw no-plan)
+
+clear-never : NeverLoaded cleared watchdogCleared
+unfolding cleared idle watchdogCleared
+clear-never = record { plan = refl; last = refl; next = λ i. refl; line = λ i. refl; live = λ i. refl; five = refl }
+
+never-clear : (b : Box) (w : Watchdog) → NeverLoaded b w → b ≡ cleared
+unfolding cleared idle
+never-clear b w n = λ z. record { plan = n .plan z; last = n .last z; side = fun-ext each z }
+  where
+    each : (i : ℕ) → b .side i ≡ idle
+    each i = λ z. record { next = n .next i z; line = n .line i z; live = n .live i z }
+
+pub clear-is-never-loaded : ClearIsNeverLoaded
+unfolding ClearIsNeverLoaded watchdogCleared
+clear-is-never-loaded b w = (λ n. (never-clear b w n, n .five), λ e. rw (e .0, e .1) clear-never)

@@ -1,5 +1,4 @@
 -- Histories of the box: where its state comes from, events one after another, and a request followed by its place in the line.
-use mathlib.Core.Path.{_≡_}
 use Prim.Native.Nat.{ℕ, _+_, _-_}
 use mathlib.Core.List.{List, [], _∷_}
 use mathlib.Core.Option.{Option, none, some}
@@ -8,7 +7,7 @@ use lib.Dec.{ltb, eqb}
 use Rattle.box_rules.specs.declared.Event.{Event}
 use Rattle.box_rules.specs.declared.Event.the-variants.{TimeCode, Request, Reply, Reading}
 use Rattle.box_rules.specs.declared.Watchdog.{Watchdog}
-use Rattle.box_rules.specs.State.{Box, Side, Live, cleared, loaded, thePlan}
+use Rattle.box_rules.specs.State.{Box, cleared, loaded, thePlan}
 use Rattle.box_rules.specs.Refuse.{refusal}
 use Rattle.box_rules.specs.Turn.{Start, inSequence, startOf}
 use Rattle.box_rules.specs.Step.{step}

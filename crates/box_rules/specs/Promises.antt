@@ -1,10 +1,10 @@
 -- What is proved of the definitions, each promise a type that reads like the sentence it stands for.
 use mathlib.Core.Path.{_≡_}
-use mathlib.Core.Logic.{_≢_, _⊎_}
-use mathlib.Core.List.{List, [], _∷_, map, flatMap, List·Memᴰ}
-use mathlib.Core.Option.{Option, none, some}
-use mathlib.Core.Bool.{Bool, true, false, _&&_, cond}
-use Prim.Native.Nat.{ℕ, _+_, _*_, _≤_, _<_}
+use mathlib.Core.Logic.{_≢_, _⊎_, _↔_}
+use mathlib.Core.List.{List, [], map, flatMap, List·Memᴰ}
+use mathlib.Core.Option.{none, some}
+use mathlib.Core.Bool.{Bool, true, _&&_, cond}
+use Prim.Native.Nat.{ℕ, _+_, _*_, _≤_}
 use lib.ListN.{length}
 use lib.Dec.{eqb, ltb}
 use Rattle.lists.specs.Search.{keep}
@@ -15,7 +15,7 @@ use Rattle.plan_rules.specs.Meaning.{uses, permits}
 use Rattle.plan_rules.specs.Verdict.{number}
 use Rattle.plan_rules.specs.Judge.{judge}
 use Rattle.box_rules.specs.declared.Event.{Event}
-use Rattle.box_rules.specs.declared.Event.the-variants.{TimeCode, Request, Reply, Reading}
+use Rattle.box_rules.specs.declared.Event.the-variants.{TimeCode, Request}
 use Rattle.box_rules.specs.declared.Answer.the-variants.{Refused}
 use Rattle.box_rules.specs.declared.Watchdog.{Watchdog}
 use Rattle.box_rules.specs.State as state
@@ -24,7 +24,7 @@ use Rattle.box_rules.specs.Refuse.{refusal, recordSize, mostRecords}
 use Rattle.box_rules.specs.Turn.{inSequence, valueOf, aged, turned}
 use Rattle.box_rules.specs.Records.{Record, recordBytes, full, records}
 use Rattle.box_rules.specs.Step.{step, Outcome}
-use Rattle.box_rules.specs.History.{Reached, Fed, feed, ticks, allNext, Fate, starts, waits, fate, hasStarted}
+use Rattle.box_rules.specs.History.{Reached, Fed, ticks, allNext, Fate, starts, waits, fate, hasStarted}
 
 -- Demand 1. "A refused event changes nothing": it answers its number, and box, watchdog and records are as they were.
 unfoldable pub RefusedEventChangesNothing : Type 0
@@ -35,6 +35,19 @@ RefusedEventChangesNothing =
 -- "A refused load leaves a box with no plan at all": the box and the five numbers of a clear.
 unfoldable pub RefusedLoadIsAClear : Type 0
 RefusedLoadIsAClear = (file : List ℕ) → number (judge file) ≢ 0 → (loaded file ≡ cleared) × (watchdogLoaded file ≡ watchdogCleared)
+
+-- "After a clear the box equals one never loaded, every number of it": no plan, no time-code seen, of every initiator the next number
+-- is 0, nothing waits and nothing is live, and the five numbers are 0.
+pub record NeverLoaded (b : Box) (w : Watchdog) : Type 0 where
+  pub plan : b .plan ≡ none
+  pub last : b .last ≡ none
+  pub next : (i : ℕ) → (b .side i) .next ≡ 0
+  pub line : (i : ℕ) → (b .side i) .line ≡ []
+  pub live : (i : ℕ) → (b .side i) .live ≡ none
+  pub five : w ≡ record { last = 0; seen = 0; reported = 0; least = 0; greatest = 0 }
+
+unfoldable pub ClearIsNeverLoaded : Type 0
+ClearIsNeverLoaded = (b : Box) (w : Watchdog) → NeverLoaded b w ↔ ((b ≡ cleared) × (w ≡ watchdogCleared))
 
 -- Demand 3, links. The links that a live transaction runs on.
 unfoldable pub runs : Plan → ℕ → Live → ℕ → Bool
@@ -148,6 +161,7 @@ RecordsInOrder = (b : Box) → Reached b → (w : Watchdog) (byte clock : ℕ) �
 pub record Promises : Type 0 where
   pub refused-event : RefusedEventChangesNothing
   pub refused-load : RefusedLoadIsAClear
+  pub clear : ClearIsNeverLoaded
   pub links : LinksNeverShared
   pub between : NotEvenBetweenRecords
   pub in-time : RequestsStartInTime

@@ -1,8 +1,8 @@
 -- The records of a time-code, "in this order", and their bytes.
-use Prim.Native.Nat.{ℕ, _*_, _/_, _%_}
+use Prim.Native.Nat.{ℕ, _/_, _%_}
 use mathlib.Core.List.{List, [], _∷_, _++_, flatMap}
 use mathlib.Core.Option.{Option, none, some}
-use mathlib.Core.Bool.{Bool, true, false, not, cond}
+use mathlib.Core.Bool.{Bool, not, cond}
 use lib.ListN.{length, drop}
 use Rattle.lists.specs.Search.{only}
 use Rattle.plan_rules.specs.Plan.{Entry, Plan}

@@ -2,7 +2,7 @@
 use Prim.Native.Nat.{ℕ, _*_}
 use mathlib.Core.List.{List, [], _∷_}
 use mathlib.Core.Option.{Option, none, some}
-use mathlib.Core.Bool.{Bool, true, false, not, _&&_}
+use mathlib.Core.Bool.{Bool, false, not, _&&_}
 use lib.ListN.{length}
 use lib.Dec.{ltb, leb, eqb}
 use Rattle.lists.specs.Search.{any, isSome}
@@ -11,7 +11,7 @@ use Rattle.plan_rules.specs.Plan.{Entry, Plan}
 use Rattle.plan_rules.specs.Meaning.{isInitiator, permits}
 use Rattle.box_rules.specs.declared.Event.{Event}
 use Rattle.box_rules.specs.declared.Event.the-variants.{TimeCode, Request, Reply, Reading}
-use Rattle.box_rules.specs.State.{Box, Side, Live, noPlan, thePlan}
+use Rattle.box_rules.specs.State.{Box, Live, noPlan, thePlan}
 
 -- "8 waiting requests per initiator"
 abbrev pub placesInLine : ℕ

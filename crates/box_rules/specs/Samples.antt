@@ -10,11 +10,11 @@ use Rattle.plan_rules.specs.Print.{text, line}
 use Rattle.box_rules.specs.declared.Event.{Event}
 use Rattle.box_rules.specs.declared.Event.the-variants.{TimeCode, Request, Reply, Reading}
 use Rattle.box_rules.specs.declared.Answer.{Answer}
-use Rattle.box_rules.specs.declared.Answer.the-variants.{Refused, Recorded, Joined, Ended, Told}
+use Rattle.box_rules.specs.declared.Answer.the-variants.{Refused, Recorded, Joined}
 use Rattle.box_rules.specs.declared.Watchdog.{Watchdog}
 use Rattle.box_rules.specs.State.{Box, loaded, watchdogLoaded}
-use Rattle.box_rules.specs.Records.{Record, recordBytes}
-use Rattle.box_rules.specs.Step.{Outcome, step}
+use Rattle.box_rules.specs.Records.{recordBytes}
+use Rattle.box_rules.specs.Step.{step}
 
 unfoldable pub node : ℕ → Item
 node n = device (record { num = n; kind = 0 })

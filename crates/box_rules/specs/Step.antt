@@ -1,16 +1,16 @@
 -- The step: each event gets its answer, its records, and the box and the watchdog after it.
-use Prim.Native.Nat.{ℕ, _*_}
-use mathlib.Core.List.{List, [], _∷_, _++_}
+use Prim.Native.Nat.{ℕ}
+use mathlib.Core.List.{List, []}
 use mathlib.Core.Option.{Option, none, some}
-use mathlib.Core.Bool.{Bool, true, false, not, _&&_, cond}
-use lib.ListN.{length, drop}
-use lib.Dec.{ltb, eqb}
+use mathlib.Core.Bool.{true, false, cond}
+use lib.ListN.{length}
+use lib.Dec.{eqb}
 use Rattle.box_rules.specs.declared.Event.{Event}
 use Rattle.box_rules.specs.declared.Event.the-variants.{TimeCode, Request, Reply, Reading}
 use Rattle.box_rules.specs.declared.Answer.{Answer}
 use Rattle.box_rules.specs.declared.Answer.the-variants.{Refused, Recorded, Joined, Ended, Told}
 use Rattle.box_rules.specs.declared.Watchdog.{Watchdog}
-use Rattle.box_rules.specs.State.{Box, Side, Live, noPlan, thePlan}
+use Rattle.box_rules.specs.State.{Box, Side, Live, thePlan}
 use Rattle.box_rules.specs.Refuse.{refusal}
 use Rattle.box_rules.specs.Watch.{isOverdue, told, fed}
 use Rattle.box_rules.specs.Turn.{join, finish, class, inSequence, turned}

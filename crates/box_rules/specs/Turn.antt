@@ -1,14 +1,14 @@
 -- What a request, a reply and a time-code do to one initiator's side.
 use Prim.Native.Nat.{ℕ, _+_, _%_}
-use mathlib.Core.List.{List, [], _∷_, _++_}
+use mathlib.Core.List.{[], _∷_, _++_}
 use mathlib.Core.Option.{Option, none, some}
-use mathlib.Core.Bool.{Bool, true, false, not, _&&_, _||_, cond}
+use mathlib.Core.Bool.{Bool, true, false, _&&_, _||_, cond}
 use lib.Dec.{leb, eqb}
 use Rattle.lists.specs.Search.{isSome}
 use Rattle.lists.specs.Place.{Found, first, without}
 use Rattle.plan_rules.specs.Plan.{Entry, Plan}
 use Rattle.plan_rules.specs.Meaning.{entryAt, permits}
-use Rattle.box_rules.specs.State.{Box, Side, Live, Request}
+use Rattle.box_rules.specs.State.{Side, Live, Request}
 
 -- "Joins its initiator's line and gets that initiator's next 16-bit transaction number; after 65,535 comes 0."
 unfoldable pub asked : ℕ → ℕ → ℕ → Side → Request

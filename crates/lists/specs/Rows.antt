@@ -1,7 +1,7 @@
 -- A table as rows: a number, and whether it is to be given. The first row that holds decides.
 -- The laws look a row up by its number, so that a new row breaks no proof.
 use mathlib.Core.List.{List, [], _∷_}
-use mathlib.Core.Bool.{Bool, true, false, cond}
+use mathlib.Core.Bool.{Bool, false, cond}
 use Prim.Native.Nat.{ℕ}
 use lib.Dec.{eqb}
 

@@ -1,10 +1,10 @@
 -- Plan memory: eight arrays that the caller lends, each a function of the plan that it holds, unused cells 0.
 -- So equal plans have equal memory, and the memory of no plan, all 0, is that of the blank plan.
 use mathlib.Core.Path.{_≡_}
-use Prim.Native.Nat.{ℕ, _+_, _*_, _/_, _%_, min, max}
-use mathlib.Core.List.{List, [], _∷_, _++_, flatMap}
+use Prim.Native.Nat.{ℕ, _/_, _%_, min, max}
+use mathlib.Core.List.{List, [], _∷_, flatMap}
 use mathlib.Core.Option.{Option, none, some}
-use mathlib.Core.Bool.{Bool, true, false, cond}
+use mathlib.Core.Bool.{cond}
 use lib.ListN.{length}
 use lib.Dec.{eqb}
 use Rattle.lists.specs.Search.{find, isIn}

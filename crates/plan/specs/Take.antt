@@ -1,8 +1,7 @@
 -- An item judged after a plan, and the plan with it: what the code does with each field that is read.
-use mathlib.Core.Path.{_≡_}
 use Prim.Native.Nat.{ℕ}
 use mathlib.Core.List.{List}
-use mathlib.Core.Bool.{Bool, cond}
+use mathlib.Core.Bool.{cond}
 use lib.Dec.{eqb}
 use Rattle.lists.specs.Rows.{firstOf}
 use Rattle.plan_rules.specs.Plan.{Plan, Item, device, link, path, entry, timing, grow}

@@ -2,7 +2,6 @@
 use mathlib.Core.Path.{_≡_, sym, ap, _∙_}
 use mathlib.Core.List.{List}
 use Prim.Native.Nat.{ℕ}
-use Rattle.plan_rules.specs.Plan.{Plan}
 use Rattle.plan_rules.specs.Canon.{canonical, written, given, planOf, SamePlan}
 use Rattle.plan_rules.specs.Good.{Good}
 use Rattle.plan_rules.specs.Promises.{Accepted?, SamePlans, ComesBack, WrittenOutComesBack, AcceptedIsSound}

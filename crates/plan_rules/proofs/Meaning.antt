@@ -1,15 +1,13 @@
 -- What a plan means, against the paper's sentences: covering, using a link, permitting.
-use mathlib.Core.Path.{_≡_, refl, sym, _∙_}
-use mathlib.Core.List.{List, List·Memᴰ}
-use mathlib.Core.Bool.{Bool, true, false, _&&_}
-use Prim.Native.Nat.{ℕ, _+_, _-_, _*_, _%_, _≤_, _<_}
+use mathlib.Core.Path.{_≡_}
+use mathlib.Core.Bool.{true, _&&_}
+use Prim.Native.Nat.{_+_, _-_, _*_, _%_, _<_}
 use native.Mathlib.Omega.{arith}
-use lib.Dec.{ltb, leb, eqb}
+use lib.Dec.{leb, eqb}
 use borrow.Author.Tests.{ltb-true, lt-ltb, leb-true, le-leb, eqb-true, eq-eqb}
-use Rattle.lists.specs.Search.{any, isIn}
+use Rattle.lists.specs.Search.{isIn}
 use Rattle.lists.specs.laws.Bools.{both-true, true-both}
 use Rattle.lists.specs.laws.Search.{any-elim, any-intro, isIn-elim, isIn-intro}
-use Rattle.plan_rules.specs.Plan.{Route, Entry, Plan}
 use Rattle.plan_rules.specs.Meaning.{covers, uses, leadsFrom, fits, permits}
 use Rattle.plan_rules.specs.Promises.{CoversAsWorded, OnPath, UsesAsWorded, PermitsAsWorded}
 

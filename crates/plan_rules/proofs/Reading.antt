@@ -1,9 +1,7 @@
 -- The fields front to back: what `readFile` computes is what the words say, the first field with a fault or the plan of all fields.
 use mathlib.Core.Path.{_≡_, refl, sym, ap, _∙_}
-use mathlib.Core.Logic.{_≢_, _↔_}
+use mathlib.Core.Logic.{_↔_}
 use mathlib.Core.List.{List}
-use mathlib.Core.Option.{Option, none, some}
-use mathlib.Core.Bool.{true}
 use Prim.Native.Nat.{ℕ, zero, suc, _+_, _≤_, _<_}
 use native.Mathlib.Omega.{arith}
 use native.Mathlib.Decide.{ℕ-discrete, decLt}
@@ -12,8 +10,8 @@ use lib.Dec.{ltb}
 use borrow.Author.Tests.{ltb-false, le-leb, lt-leb, eq-eqb, ne-eqb}
 use Rattle.lists.specs.Rows.{testOf}
 use Rattle.lists.specs.laws.Bools.{neither}
-use Rattle.plan_rules.specs.Plan.{Plan, blank, Item}
-use Rattle.plan_rules.specs.Fields.{tagAt, nextAt, itemAt}
+use Rattle.plan_rules.specs.Plan.{Plan, blank}
+use Rattle.plan_rules.specs.Fields.{tagAt, nextAt}
 use Rattle.plan_rules.specs.Judge.{headRows, fieldRows, fieldFault, withField, Reading, plan, fault, readFrom, readFile}
 use Rattle.plan_rules.specs.Words.{Faultless, Fault, Reaches, start, next}
 use Rattle.plan_rules.specs.laws.FieldRows.{faultless, has-fault}

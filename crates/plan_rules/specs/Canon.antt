@@ -2,13 +2,12 @@
 use mathlib.Core.Path.{_≡_}
 use mathlib.Core.Logic.{_⊎_}
 use Prim.Native.Nat.{ℕ, min, max}
-use mathlib.Core.List.{List, [], _∷_, _++_, map, flatMap}
-use mathlib.Core.Bool.{Bool}
+use mathlib.Core.List.{List, _++_, map, flatMap}
 use Rattle.lists.specs.Search.{keep, isIn, below64}
 use Rattle.lists.specs.Order.{inOrder, Shuffled}
-use Rattle.plan_rules.specs.Plan.{Device, Link, Route, Entry, Timing, Plan, blank, Item, device, link, path, entry, timing}
+use Rattle.plan_rules.specs.Plan.{Device, Link, Route, Entry, Plan, blank, Item, device, link, path, entry, timing}
 use Rattle.plan_rules.specs.Fields.{fieldFor}
-use Rattle.plan_rules.specs.Judge.{Reading, plan, fault, readFile}
+use Rattle.plan_rules.specs.Judge.{plan, fault, readFile}
 
 -- "a link's smaller device comes first"
 unfoldable pub smallFirst : Link → Link

@@ -1,8 +1,8 @@
 -- Writing out, of a box that holds a plan or none: the refusals, the answer, and the buffer afterwards.
 use Prim.Native.Nat.{ℕ}
 use mathlib.Core.List.{List, [], _∷_, _++_}
-use mathlib.Core.Option.{Option, none, some, Option·getD}
-use mathlib.Core.Bool.{Bool, true, false, not}
+use mathlib.Core.Option.{Option, Option·getD}
+use mathlib.Core.Bool.{true, false, not}
 use lib.ListN.{length, drop}
 use lib.Dec.{ltb, eqb}
 use Rattle.lists.specs.Search.{isSome}

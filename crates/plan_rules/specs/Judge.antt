@@ -1,16 +1,16 @@
 -- The verdict on a file: "Fields are judged front to back. Within a field the smaller number wins. Then 12, 13, 14 over the whole."
 -- The table of verdicts stands as rows; the first row that holds decides.
-use Prim.Native.Nat.{ℕ, zero, suc, _+_, _*_}
+use Prim.Native.Nat.{ℕ, zero, suc, _+_}
 use mathlib.Core.List.{List, [], _∷_, _++_}
 use mathlib.Core.Option.{Option, none, some}
-use mathlib.Core.Bool.{Bool, true, false, not, _&&_, _||_, cond}
+use mathlib.Core.Bool.{Bool, true, false, not, _&&_, _||_}
 use lib.ListN.{length}
 use lib.Dec.{ltb, leb, eqb}
-use Rattle.lists.specs.Search.{any, all, when, firstSome, isSome, isIn, twice, least}
+use Rattle.lists.specs.Search.{any, all, when, firstSome, twice, least}
 use Rattle.lists.specs.Rows.{Row, firstOf}
 use Rattle.plan_rules.specs.declared.Verdict.{Verdict}
 use Rattle.plan_rules.specs.declared.Verdict.the-variants.{Accepted, Faulty, Overrun, Clash}
-use Rattle.plan_rules.specs.Plan.{Route, Entry, Timing, Plan, blank, Item, device, link, path, entry, timing, grow}
+use Rattle.plan_rules.specs.Plan.{Entry, Plan, blank, Item, device, link, path, entry, timing, grow}
 use Rattle.plan_rules.specs.Fields.{isTag, comesOnce, lengthAllowed, tagAt, sizeAt, nextAt, itemAt}
 use Rattle.plan_rules.specs.Meaning.{isDevice, isNode, isLink, isInitiator, initiators, hasPath, isWalk, mayUse, isAtWork, standsAt, overruns}
 

@@ -3,9 +3,9 @@
 use Prim.Native.Nat.{ℕ, _+_, _-_, _*_, _%_}
 use mathlib.Core.List.{List, [], _∷_}
 use mathlib.Core.Option.{Option, none, some}
-use mathlib.Core.Bool.{Bool, true, false, not, _&&_, _||_, cond}
+use mathlib.Core.Bool.{Bool, false, not, _&&_, _||_, cond}
 use lib.Dec.{ltb, leb, eqb}
-use Rattle.lists.specs.Search.{any, all, keep, find, isIn, below64}
+use Rattle.lists.specs.Search.{any, keep, find, isIn, below64}
 use Rattle.plan_rules.specs.Plan.{Device, Link, Route, Entry, Plan}
 
 unfoldable pub isDevice : Plan → ℕ → Bool

@@ -4,11 +4,11 @@ use Prim.Native.Char.{code}
 use Prim.Native.String
 use Prim.Native.String.{String}
 use mathlib.Core.List.{List, [], _∷_, _++_, flatMap}
-use mathlib.Core.Bool.{Bool, true, false}
+use mathlib.Core.Bool.{true, false}
 use lib.Dec.{ltb}
 use Rattle.plan_rules.specs.declared.Verdict.{Verdict}
 use Rattle.plan_rules.specs.declared.Verdict.the-variants.{Accepted, Faulty, Overrun, Clash}
-use Rattle.plan_rules.specs.Verdict.{number, place}
+use Rattle.plan_rules.specs.Verdict.{place}
 
 -- the bytes of a text of ASCII characters
 unfoldable pub text : String → List ℕ

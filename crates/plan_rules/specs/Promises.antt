@@ -10,7 +10,7 @@ use Rattle.plan_rules.specs.Plan.{Route, Entry, Plan}
 use Rattle.plan_rules.specs.Meaning.{covers, uses, permits}
 use Rattle.plan_rules.specs.Verdict.{number}
 use Rattle.plan_rules.specs.Judge.{judge}
-use Rattle.plan_rules.specs.Canon.{written, given, planOf, canonical, SamePlan}
+use Rattle.plan_rules.specs.Canon.{written, given, planOf, SamePlan}
 use Rattle.plan_rules.specs.Good.{Bytes, Good}
 use Rattle.plan_rules.specs.Words.{Gets}
 use Rattle.plan_rules.specs.laws.Sound.{Sound}

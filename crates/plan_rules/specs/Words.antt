@@ -2,13 +2,13 @@
 -- is one of the promises.
 use mathlib.Core.Path.{_≡_}
 use mathlib.Core.Logic.{_≢_}
-use mathlib.Core.List.{List, [], _∷_, List·Memᴰ}
-use mathlib.Core.Bool.{Bool, true, false}
+use mathlib.Core.List.{List, [], List·Memᴰ}
+use mathlib.Core.Bool.{true, false}
 use Prim.Native.Nat.{ℕ, _+_, _*_, _≤_, _<_}
 use lib.ListN.{length}
-use Rattle.lists.specs.Rows.{Row, testOf}
+use Rattle.lists.specs.Rows.{testOf}
 use Rattle.plan_rules.specs.declared.Verdict.{Verdict}
-use Rattle.plan_rules.specs.declared.Verdict.the-variants.{Accepted, Faulty, Overrun, Clash}
+use Rattle.plan_rules.specs.declared.Verdict.the-variants.{Faulty, Overrun, Clash}
 use Rattle.plan_rules.specs.Plan.{Entry, Plan, blank}
 use Rattle.plan_rules.specs.Fields.{tagAt, nextAt}
 use Rattle.plan_rules.specs.Meaning.{uses, covers}

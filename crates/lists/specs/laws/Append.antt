@@ -8,14 +8,9 @@ use native.Mathlib.Nat.{add-zero, add-suc, suc-add}
 use native.Mathlib.Omega.{arith}
 use lib.ListN.{length, getD, drop}
 use lib.Seq.{drop-cons}
-use lib.Dec.{eqb}
-use borrow.Author.Tests.{eqb-true, eq-eqb}
 use Rattle.lists.specs.Search.{any, all, find, repeats, upFrom}
-use Rattle.lists.specs.laws.Bools.{neither, false-either, not-both, same-test, none-some}
+use Rattle.lists.specs.laws.Bools.{neither, false-either, not-both, none-some}
 use Rattle.lists.specs.laws.Search.{any-elim, any-intro, any-false, any-append, all-elim, all-intro}
-
-pub eqb-sym : (a b : ℕ) → eqb a b ≡ eqb b a
-eqb-sym a b = same-test (eqb a b) (eqb b a) (λ h. eq-eqb b a (sym (eqb-true a b h))) (λ h. eq-eqb a b (sym (eqb-true b a h)))
 
 -- a proof for each element of a list that is written out
 abbrev pub Every : {A : Type 0} → (A → Type 0) → List A → Type 0

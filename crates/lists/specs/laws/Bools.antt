@@ -1,10 +1,12 @@
 -- Laws of true and false, and of answers: taking tests apart, and telling answers apart.
-use mathlib.Core.Path.{_≡_, refl, sym, ap, _∙_}
+use mathlib.Core.Path.{_≡_, refl, sym, _∙_}
 use mathlib.Core.Logic.{_⊎_, inl, inr}
 use mathlib.Core.Option.{Option, none, some}
-use mathlib.Core.Bool.{Bool, true, false, not, _&&_, _||_, cond, true≢false}
+use mathlib.Core.Bool.{Bool, true, false, _&&_, _||_, cond, true≢false}
 use Prim.Native.Nat.{ℕ}
 use native.Mathlib.Omega.{arith}
+use lib.Dec.{eqb}
+use borrow.Author.Tests.{eqb-true, eq-eqb}
 use Rattle.lists.specs.Search.{when, isSome}
 
 pub both-true : (a b : Bool) → a && b ≡ true → (a ≡ true) × (b ≡ true)
@@ -67,3 +69,6 @@ pub when-none : {A : Type 0} (b : Bool) (x : A) → when b x ≡ none → b ≡ 
 unfolding when
 when-none true x e = none-some (sym e)
 when-none false x e = refl
+
+pub eqb-sym : (a b : ℕ) → eqb a b ≡ eqb b a
+eqb-sym a b = same-test (eqb a b) (eqb b a) (λ h. eq-eqb b a (sym (eqb-true a b h))) (λ h. eq-eqb a b (sym (eqb-true b a h)))

@@ -9,12 +9,9 @@ use lib.Dec.{eqb}
 use borrow.Author.Tests.{eqb-true, eqb-false, eq-eqb, ne-eqb}
 use Rattle.lists.specs.Search.{any, keep, only, repeats, isIn, twice, upFrom, below64}
 use Rattle.lists.specs.Order.{inOrder, Shuffled, done, next, then}
-use Rattle.lists.specs.laws.Bools.{both-true, true-both, neither, not-both, same-test}
+use Rattle.lists.specs.laws.Bools.{both-true, true-both, neither, not-both, eqb-sym}
 use Rattle.lists.specs.laws.Search.{any-false, keep-append, keep-none, keep-same, upFrom-range}
 use Rattle.lists.specs.laws.Shuffle.{Respects, eq-respects, each-shuffled, shuffled-refl, shuffled-behind, shuffled-middle, keep-shuffled, short-shuffled, repeats-shuffled}
-
-pub eqb-turned : (a b : ℕ) → eqb a b ≡ eqb b a
-eqb-turned a b = same-test (eqb a b) (eqb b a) (λ e. eq-eqb b a (sym (eqb-true a b e))) (λ e. eq-eqb a b (sym (eqb-true b a e)))
 
 one-number : (n a b : ℕ) → eqb n a ≡ true → eqb n b ≡ true → eqb a b ≡ true
 one-number n a b e f = eq-eqb a b (sym (eqb-true n a e) ∙ eqb-true n b f)
@@ -109,11 +106,11 @@ module _ {A : Type 0} where
 -- whether a key, or a pair of keys, is there twice is the same for lists that differ in their order only
 module _ {A : Type 0} {R : A → A → Type 0} {xs ys : List A} (s : Shuffled R xs ys) where
   pub key-repeats : (key : A → ℕ) → Respects R key → repeats (λ (x y : A). eqb (key x) (key y)) xs ≡ repeats (λ (x y : A). eqb (key x) (key y)) ys
-  key-repeats key k = repeats-shuffled _ (λ x y. eqb-turned (key x) (key y)) (λ z x y r. ap (eqb (key z)) (k x y r)) s
+  key-repeats key k = repeats-shuffled _ (λ x y. eqb-sym (key x) (key y)) (λ z x y r. ap (eqb (key z)) (k x y r)) s
 
   pub pair-repeats : (a b : A → ℕ) → Respects R a → Respects R b
       → repeats (λ (x y : A). eqb (a x) (a y) && eqb (b x) (b y)) xs ≡ repeats (λ (x y : A). eqb (a x) (a y) && eqb (b x) (b y)) ys
-  pair-repeats a b j k = repeats-shuffled _ (λ x y. rw (eqb-turned (a x) (a y), eqb-turned (b x) (b y))) (λ z x y r. rw (j x y r, k x y r)) s
+  pair-repeats a b j k = repeats-shuffled _ (λ x y. rw (eqb-sym (a x) (a y), eqb-sym (b x) (b y))) (λ z x y r. rw (j x y r, k x y r)) s
 
 -- Lists that differ in their order only have one order by a key, up to a function that does not tell related elements apart, where
 -- no key is there twice; and by two keys where no pair of them is.

@@ -1,17 +1,17 @@
 -- Laws of the tests over lists and of the searches: what a test that holds has found, and what a search that found nothing rules out.
-use mathlib.Core.Path.{_≡_, refl, sym, ap, _∙_, subst}
-use mathlib.Core.Logic.{_≢_, _⊎_, inl, inr}
+use mathlib.Core.Path.{_≡_, refl, sym, ap, _∙_}
+use mathlib.Core.Logic.{_⊎_, inl, inr}
 use mathlib.Core.List.{List, [], _∷_, _++_, flatMap, List·Memᴰ, List·Memᴰ·head, List·Memᴰ·tail, List·Memᴰ·append-cases, List·Memᴰ·cases-cons, List·Memᴰ·not-nil, List·Memᴰ·eq-of-singleton, Memᴰ·append-left, Memᴰ·append-right}
 use mathlib.Core.Option.{Option, none, some}
-use mathlib.Core.Bool.{Bool, true, false, not, _&&_, _||_, cond, or-false, or-comm, or-true}
+use mathlib.Core.Bool.{Bool, true, false, _||_, cond, or-false, or-comm, or-true}
 use Prim.Native.Nat.{ℕ, zero, suc, _+_, _≤_, _<_}
 use native.Mathlib.Omega.{arith}
 use native.Mathlib.Decide.{ℕ-discrete}
 use lib.ListN.{length}
-use lib.Dec.{ltb, eqb}
+use lib.Dec.{eqb}
 use borrow.Author.Tests.{eqb-true, eq-eqb}
-use Rattle.lists.specs.Search.{any, all, keep, find, only, when, isSome, isIn, upFrom, below64, seek, least}
-use Rattle.lists.specs.laws.Bools.{both-true, neither, false-either, not-both, cond-cases, none-some, some-some}
+use Rattle.lists.specs.Search.{any, all, keep, find, only, isIn, upFrom, below64, seek, least}
+use Rattle.lists.specs.laws.Bools.{both-true, neither, false-either, not-both, cond-cases, none-some}
 
 module _ {A : Type 0} (t : A → Bool) where
   -- any

@@ -1,8 +1,6 @@
 -- The numbers of a plan whose items are all in range, list by list.
-use mathlib.Core.Path.{_≡_}
 use mathlib.Core.List.{List·Memᴰ}
 use mathlib.Core.Bool.{false}
-use Prim.Native.Nat.{ℕ, _<_}
 use Rattle.plan_rules.specs.Plan.{Device, Link, Route, Entry, Plan, device, link, path, entry}
 use Rattle.plan_rules.specs.Judge.{outOfRange}
 use Rattle.plan_rules.specs.Good.{Each}

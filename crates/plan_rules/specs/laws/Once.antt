@@ -3,7 +3,7 @@ use mathlib.Core.Path.{_≡_, ap}
 use mathlib.Core.Bool.{Bool, _||_}
 use Rattle.lists.specs.Search.{any, twice}
 use Rattle.lists.specs.laws.Search.{any-same}
-use Rattle.lists.specs.laws.Append.{eqb-sym}
+use Rattle.lists.specs.laws.Bools.{eqb-sym}
 use Rattle.plan_rules.specs.Plan.{Device, Link, Route, Entry, Plan, device, link, path, entry}
 use Rattle.plan_rules.specs.Meaning.{isDevice, isLink, hasPath, leadsFrom, standsAt}
 use Rattle.plan_rules.specs.Judge.{givenBefore}

@@ -11,7 +11,7 @@ use Rattle.lists.specs.Search.{any, isIn, below64}
 use Rattle.lists.specs.laws.Bools.{both-true, not-both}
 use Rattle.lists.specs.laws.Search.{find-some, find-has, keep-none, isIn-elim}
 use Rattle.plan_rules.specs.Plan.{Entry, Plan, blank}
-use Rattle.plan_rules.specs.Meaning.{isInitiator, initiators, uses, covers, fits, permits, standsAt, entryAt, mayUse, runsInto}
+use Rattle.plan_rules.specs.Meaning.{isInitiator, initiators, uses, covers, fits, permits, standsAt, entryAt, mayUse}
 use Rattle.plan_rules.specs.laws.Sound.{Sound}
 use Rattle.plan_rules.specs.laws.Initiators.{in-initiators}
 use Rattle.plan_rules.specs.laws.Overruns.{stands-at, runs-into}

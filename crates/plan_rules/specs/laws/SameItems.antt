@@ -8,7 +8,8 @@ use lib.Dec.{eqb}
 use Rattle.lists.specs.Search.{repeats, twice}
 use Rattle.lists.specs.Order.{Shuffled}
 use Rattle.lists.specs.laws.Shuffle.{Respects, eq-respects, each-shuffled, shuffled-refl, shuffled-length, shuffled-map, shuffled-append, any-shuffled, all-shuffled, flat-length}
-use Rattle.lists.specs.laws.Order.{eqb-turned, key-repeats, pair-repeats}
+use Rattle.lists.specs.laws.Bools.{eqb-sym}
+use Rattle.lists.specs.laws.Order.{key-repeats, pair-repeats}
 use Rattle.plan_rules.specs.Plan.{Device, Link, Route, Entry, Timing, Plan, Item, device, link, path, entry, timing}
 use Rattle.plan_rules.specs.Fields.{tagFor, contentFor, fieldFor}
 use Rattle.plan_rules.specs.Meaning.{isDevice, isNode, hasPath}
@@ -72,7 +73,7 @@ same-outOfRange x y (devices e) = ap (λ z. outOfRange (device z)) e
 same-outOfRange x y (links {l} {m} e) = rw (e .num) (same-ends (λ a b. over63 (m .num) || over63 a || over63 b || eqb a b) ends l m e)
   where
     ends : (a b : ℕ) → over63 (m .num) || over63 a || over63 b || eqb a b ≡ over63 (m .num) || over63 b || over63 a || eqb b a
-    ends a b = rw (eqb-turned a b, or-assoc (over63 (m .num)) (over63 a) (over63 b), or-comm (over63 a) (over63 b), ← or-assoc (over63 (m .num)) (over63 b) (over63 a))
+    ends a b = rw (eqb-sym a b, or-assoc (over63 (m .num)) (over63 a) (over63 b), or-comm (over63 a) (over63 b), ← or-assoc (over63 (m .num)) (over63 b) (over63 a))
 same-outOfRange x y (paths e) = ap (λ z. outOfRange (path z)) e
 same-outOfRange x y (entries e) = rw (e .initiator, e .slot, e .span, any-shuffled over63 (eq-respects over63) (e .targets))
 same-outOfRange x y (timings e) = ap (λ z. outOfRange (timing z)) e

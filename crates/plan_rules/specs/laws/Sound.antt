@@ -1,8 +1,8 @@
 -- What the box relies on: the facts of a plan that an accepted file gives. Whoever runs a plan uses these and not the judge.
 use mathlib.Core.Path.{_≡_}
 use mathlib.Core.Logic.{_≢_}
-use mathlib.Core.List.{List, List·Memᴰ}
-use mathlib.Core.Bool.{Bool, true, false}
+use mathlib.Core.List.{List·Memᴰ}
+use mathlib.Core.Bool.{true, false}
 use Prim.Native.Nat.{ℕ, _≤_, _<_}
 use lib.ListN.{length}
 use Rattle.plan_rules.specs.Plan.{Entry, Plan}
