@@ -1,11 +1,11 @@
 -- A refused event changes nothing, a refused load is a clear, and a clear is a box never loaded.
-use mathlib.Core.Path.{_≡_, refl, ap, _∙_, sym, fun-ext}
+use mathlib.Core.Path.{_≡_, refl, fun-ext}
 use Prim.Native.Nat.{ℕ}
 use borrow.Author.Tests.{ne-eqb}
 use Rattle.plan_rules.specs.Verdict.{number}
 use Rattle.plan_rules.specs.Judge.{judge}
 use Rattle.box_rules.specs.declared.Watchdog.{Watchdog}
-use Rattle.box_rules.specs.State.{Box, Side, idle, cleared, watchdogCleared, loaded, watchdogLoaded, isAccepted}
+use Rattle.box_rules.specs.State.{Box, idle, cleared, watchdogCleared, loaded, watchdogLoaded, isAccepted}
 use Rattle.box_rules.specs.Promises.{RefusedEventChangesNothing, RefusedLoadIsAClear, NeverLoaded, ClearIsNeverLoaded}
 use Rattle.box_rules.proofs.Steps.{step-refused}
 

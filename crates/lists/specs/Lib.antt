@@ -4,4 +4,5 @@ pub mod Rows
 pub mod Place
 pub mod Order
 pub mod Cells
+pub mod Stores
 pub mod laws

@@ -12,3 +12,4 @@ pub mod Count
 pub mod Rising
 pub mod Append
 pub mod Pigeonhole
+pub mod Stores

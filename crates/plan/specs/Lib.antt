@@ -1,2 +1,3 @@
 pub mod Memory
 pub mod Take
+pub mod Head

@@ -1,0 +1,3 @@
+-- Laws of the field reader.
+pub mod Tags
+pub mod Heads

@@ -1,0 +1,2 @@
+-- Laws of the printed line.
+pub mod Decimal
