@@ -32,9 +32,9 @@ use Rattle.box_rules.specs.History.{Fed, feed, isTick, isNext, ticks, al
 use Rattle.box_rules.specs.Promises.{RequestsStartInTime, JoinsAsAsked}
 use Rattle.plan_rules.specs.Promises.{AcceptedIsSound}
 use Rattle.plan_rules.specs.laws.Runs.{found-at, no-entry-after}
-use Rattle.box_rules.proofs.Turns.{Outlives, outlives, begins-at}
-use Rattle.box_rules.proofs.Steps.{step-cases, plan-kept}
-use Rattle.box_rules.proofs.Invariant.{AtWork, Inv, next-value, older-at-work, step-inv, reached-inv}
+use Rattle.box_rules.specs.laws.Turns.{Outlives, outlives, begins-at}
+use Rattle.box_rules.specs.laws.Steps.{step-cases, plan-kept}
+use Rattle.box_rules.specs.laws.Invariant.{AtWork, Inv, next-value, older-at-work, step-inv, reached-inv}
 use Rattle.box_rules.proofs.Places.{fate-cases, event-one, joins-as-asked}
 
 -- the time-codes in sequence until the value is t, at most

@@ -1,6 +1,3 @@
-pub mod Turns
-pub mod Steps
-pub mod Invariant
 pub mod Links
 pub mod Order
 pub mod Visits

@@ -15,8 +15,8 @@ use Rattle.box_rules.specs.Turn.{valueOf, inSequence, older, aged, turne
 use Rattle.box_rules.specs.Promises.{runs, Apart, LinksNeverShared, whileLate, whileStarting, NotEvenBetweenRecords}
 use Rattle.plan_rules.specs.Promises.{AcceptedIsSound}
 use Rattle.plan_rules.specs.laws.Runs.{may-use}
-use Rattle.box_rules.proofs.Turns.{outlives}
-use Rattle.box_rules.proofs.Invariant.{AtWork, AllAtWork, Inv, older-at-work, turned-at-work, reached-inv}
+use Rattle.box_rules.specs.laws.Turns.{outlives}
+use Rattle.box_rules.specs.laws.Invariant.{AtWork, AllAtWork, Inv, older-at-work, turned-at-work, reached-inv}
 
 module _ (p : Plan) (ok : Sound p) where
   -- a live transaction's links are among those that its initiator may use in the present slot

@@ -25,9 +25,9 @@ use Rattle.lists.specs.Order.{Rising}
 use Rattle.box_rules.specs.Promises.{isStartOf, stage, rank, RecordsInOrder, OncePerVisit}
 use Rattle.plan_rules.specs.Promises.{AcceptedIsSound}
 use Rattle.plan_rules.specs.laws.Initiators.{initiator-below}
-use Rattle.box_rules.proofs.Turns.{begins}
-use Rattle.box_rules.proofs.Steps.{records-cases}
-use Rattle.box_rules.proofs.Invariant.{reached-inv}
+use Rattle.box_rules.specs.laws.Turns.{begins}
+use Rattle.box_rules.specs.laws.Steps.{records-cases}
+use Rattle.box_rules.specs.laws.Invariant.{reached-inv}
 use Rattle.lists.specs.laws.Rising.{Ordered, rising-kept, wider, short-ordered, append-ordered, flat-ordered, once}
 
 -- 1 and 2: one record each at most

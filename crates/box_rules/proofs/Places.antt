@@ -22,9 +22,9 @@ use Rattle.box_rules.specs.Step.{step, accepts, Outcome, withSide, ticke
 use Rattle.box_rules.specs.History.{Fate, starts, waits, leaving, left, fate}
 use Rattle.box_rules.specs.Promises.{HasStarted, ThisOne, ThisVeryRequest, JoinsAsAsked}
 use Rattle.plan_rules.specs.Promises.{AcceptedIsSound}
-use Rattle.box_rules.proofs.Turns.{begins, turned-start, turned-rest}
-use Rattle.box_rules.proofs.Steps.{refused, step-accepted, step-cases, side-cases, side-changed}
-use Rattle.box_rules.proofs.Invariant.{reached-inv}
+use Rattle.box_rules.specs.laws.Turns.{begins, turned-start, turned-rest}
+use Rattle.box_rules.specs.laws.Steps.{refused, step-accepted, step-cases, side-cases, side-changed}
+use Rattle.box_rules.specs.laws.Invariant.{reached-inv}
 use Rattle.box_rules.proofs.Visits.{start-recorded}
 
 -- the request at place k of a line when a time-code turns the side: it starts, or waits no further back

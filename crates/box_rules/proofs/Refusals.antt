@@ -7,7 +7,7 @@ use Rattle.plan_rules.specs.Judge.{judge}
 use Rattle.box_rules.specs.declared.Watchdog.{Watchdog}
 use Rattle.box_rules.specs.State.{Box, idle, cleared, watchdogCleared, loaded, watchdogLoaded, isAccepted}
 use Rattle.box_rules.specs.Promises.{RefusedEventChangesNothing, RefusedLoadIsAClear, NeverLoaded, ClearIsNeverLoaded}
-use Rattle.box_rules.proofs.Steps.{step-refused}
+use Rattle.box_rules.specs.laws.Steps.{step-refused}
 
 pub refused-event : RefusedEventChangesNothing
 unfolding RefusedEventChangesNothing

@@ -22,9 +22,9 @@ use Rattle.box_rules.specs.Step.{accepts, Outcome, withSide, ticked}
 use Rattle.box_rules.specs.Promises.{isStartOf, AtAnEntry, StartsOnlyAtEntries, LiveByRecordOnly}
 use Rattle.plan_rules.specs.Promises.{AcceptedIsSound}
 use Rattle.plan_rules.specs.laws.Runs.{its-initiator}
-use Rattle.box_rules.proofs.Turns.{Outlives, begins, live-cases}
-use Rattle.box_rules.proofs.Steps.{step-cases, live-kept, records-cases}
-use Rattle.box_rules.proofs.Invariant.{reached-inv}
+use Rattle.box_rules.specs.laws.Turns.{Outlives, begins, live-cases}
+use Rattle.box_rules.specs.laws.Steps.{step-cases, live-kept, records-cases}
+use Rattle.box_rules.specs.laws.Invariant.{reached-inv}
 use Rattle.box_rules.proofs.Order.{Starts, Still, visit-cases, front, front-ordered, start-told, start-rank}
 
 -- a start is written down

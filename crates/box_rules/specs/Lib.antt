@@ -9,3 +9,4 @@ pub mod Running
 pub mod Samples
 pub mod History
 pub mod Promises
+pub mod laws

@@ -1,7 +1,7 @@
 -- Laws of places in a list: what the first search finds, and where an element stands once one more has come or one has left.
 use mathlib.Core.Path.{_≡_, refl, sym, ap}
-use mathlib.Core.Logic.{_≢_}
-use mathlib.Core.List.{List, [], _∷_, _++_}
+use mathlib.Core.Logic.{_≢_, _⊎_, inl, inr}
+use mathlib.Core.List.{List, [], _∷_, _++_, List·Memᴰ, List·Memᴰ·head, List·Memᴰ·tail, List·Memᴰ·cases-cons}
 use mathlib.Core.Option.{Option, none, some}
 use mathlib.Core.Bool.{Bool, true, false, cond}
 use Prim.Native.Nat.{ℕ, zero, suc, _-_, _≤_, _<_}
@@ -76,3 +76,26 @@ module _ {A : Type 0} where
   unfolding atPlace
   at-end [] x = refl
   at-end (y ∷ ys) x = at-end ys x
+
+  -- what stands at a place is in the list; what is left was in it, and is no longer
+  pub at-member : (xs : List A) (k : ℕ) (x : A) → atPlace k xs ≡ some x → List·Memᴰ x xs
+  unfolding atPlace
+  at-member [] k x h = none-some h
+  at-member (y ∷ ys) zero x h = List·Memᴰ·head (sym (some-some h))
+  at-member (y ∷ ys) (suc k) x h = List·Memᴰ·tail (at-member ys k x h)
+
+  pub without-member : (xs : List A) (k : ℕ) (x : A) → List·Memᴰ x (without k xs) → List·Memᴰ x xs
+  unfolding without
+  without-member [] k x m = m
+  without-member (y ∷ ys) zero x m = List·Memᴰ·tail m
+  without-member (y ∷ ys) (suc k) x m = go (List·Memᴰ·cases-cons m) (without-member ys k x)
+    where
+      go : (x ≡ y) ⊎ List·Memᴰ x (without k ys) → (List·Memᴰ x (without k ys) → List·Memᴰ x ys) → List·Memᴰ x (y ∷ ys)
+      go (inl e) ih = List·Memᴰ·head e
+      go (inr n) ih = List·Memᴰ·tail (ih n)
+
+  pub without-short : (xs : List A) (k : ℕ) → length (without k xs) ≤ length xs
+  unfolding without
+  without-short [] k = omega arith
+  without-short (y ∷ ys) zero = omega arith
+  without-short (y ∷ ys) (suc k) = omega (arith, without-short ys k)

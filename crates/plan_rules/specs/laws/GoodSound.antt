@@ -55,6 +55,7 @@ module _ (p : Plan) (good : Good p) where
     slots = λ e m. (good-entry e m) .slot;
     some-span = λ e m. (good-entry e m) .some-span;
     spans = λ e m. (good-entry e m) .span;
+    targets = λ e m. (good-entry e m) .targets;
     unique = one;
     no-overrun = λ e f m n. apart-from e f m n (runsInto e f) refl;
     no-clash = λ s i j l hs d mi mj. apart s i j l hs d mi mj (decLt i j);

@@ -76,6 +76,7 @@ sound-blank = record {
   slots = λ e m. absurd (List·Memᴰ·not-nil m);
   some-span = λ e m. absurd (List·Memᴰ·not-nil m);
   spans = λ e m. absurd (List·Memᴰ·not-nil m);
+  targets = λ e m. absurd (List·Memᴰ·not-nil m);
   unique = λ e f m. absurd (List·Memᴰ·not-nil m);
   no-overrun = λ e f m. absurd (List·Memᴰ·not-nil m);
   no-clash = λ s i j l h d u. not-both u refl;

@@ -14,6 +14,7 @@ pub record Sound (p : Plan) : Type 0 where
   pub slots : (e : Entry) → List·Memᴰ e (p .entries) → e .slot < 64
   pub some-span : (e : Entry) → List·Memᴰ e (p .entries) → 0 < e .span
   pub spans : (e : Entry) → List·Memᴰ e (p .entries) → e .span ≤ 16
+  pub targets : (e : Entry) → List·Memᴰ e (p .entries) → (t : ℕ) → List·Memᴰ t (e .targets) → t < 64
   pub unique : (e f : Entry) → List·Memᴰ e (p .entries) → List·Memᴰ f (p .entries) → e .initiator ≡ f .initiator → e .slot ≡ f .slot → e ≡ f
   pub no-overrun : (e f : Entry) → List·Memᴰ e (p .entries) → List·Memᴰ f (p .entries) → runsInto e f ≡ false
   pub no-clash : (s i j l : ℕ) → s < 64 → i ≢ j → mayUse p (p .entries) s i l ≡ true → mayUse p (p .entries) s j l ≡ true → ⊥

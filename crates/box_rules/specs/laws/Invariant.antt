@@ -23,8 +23,8 @@ use Rattle.box_rules.specs.Step.{step, accepts, Outcome, withSide, ticke
 use Rattle.box_rules.specs.History.{Reached, by-clear, by-load, by-event}
 use Rattle.plan_rules.specs.Promises.{AcceptedIsSound}
 use Rattle.plan_rules.specs.laws.Runs.{permits-target, sound-blank}
-use Rattle.box_rules.proofs.Turns.{Outlives, Begins, begins, live-cases}
-use Rattle.box_rules.proofs.Steps.{step-cases, live-kept}
+use Rattle.box_rules.specs.laws.Turns.{Outlives, Begins, begins, live-cases}
+use Rattle.box_rules.specs.laws.Steps.{step-cases, live-kept}
 
 -- a live transaction's entry: as many slots before the present one as the transaction is old, and still covering it
 pub record AtWork (p : Plan) (last : Option ℕ) (i : ℕ) (l : Live) : Type 0 where

@@ -1,0 +1,4 @@
+pub mod Turns
+pub mod Steps
+pub mod Invariant
+pub mod Fit

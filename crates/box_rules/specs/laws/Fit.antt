@@ -1,0 +1,216 @@
+-- Every number of a reached box fits its place: requests, live transactions, lines and numbers are within document 01's bounds, and
+-- whoever is no initiator of the plan is idle. Run memory rests on this.
+use mathlib.Core.Path.{_≡_, refl, sym, ap, _∙_}
+use mathlib.Core.Logic.{_⊎_, inl, inr}
+use mathlib.Core.List.{List, [], _∷_, _++_, List·Memᴰ, List·Memᴰ·append-cases, List·Memᴰ·eq-of-singleton, List·Memᴰ·not-nil}
+use mathlib.Core.Option.{Option, none, some}
+use mathlib.Core.Bool.{Bool, true, false, not, _&&_, cond}
+use Prim.Native.Nat.{ℕ, _+_, _%_, _≤_, _<_}
+use native.Mathlib.Omega.{arith}
+use lib.ListN.{length, length-append}
+use lib.Dec.{eqb}
+use borrow.Author.Tests.{eqb-true, ltb-false, leb-false, not-false}
+use Rattle.lists.specs.Search.{any}
+use Rattle.lists.specs.Rows.{testOf}
+use Rattle.lists.specs.Place.{without}
+use Rattle.lists.specs.laws.Bools.{both-true, not-both, none-some, some-some, cond-cases}
+use Rattle.lists.specs.laws.Search.{any-elim}
+use Rattle.lists.specs.laws.Rows.{rise, no-row}
+use Rattle.lists.specs.laws.Place.{first-some, at-member, without-member, without-short}
+use Rattle.plan_rules.specs.Plan.{Entry, Plan}
+use Rattle.plan_rules.specs.Meaning.{isInitiator, permits}
+use Rattle.plan_rules.specs.Verdict.{number}
+use Rattle.plan_rules.specs.Judge.{judge}
+use Rattle.plan_rules.specs.Canon.{planOf}
+use Rattle.plan_rules.specs.Promises.{AcceptedIsSound}
+use Rattle.plan_rules.specs.laws.Sound.{Sound}
+use Rattle.plan_rules.specs.laws.Runs.{permits-target, sound-blank}
+use Rattle.box_rules.specs.declared.Event.{Event}
+use Rattle.box_rules.specs.declared.Event.the-variants.{TimeCode, Request, Reply, Reading}
+use Rattle.box_rules.specs.declared.Watchdog.{Watchdog}
+use Rattle.box_rules.specs.State as state
+use Rattle.box_rules.specs.State.{Box, Side, Live, idle, cleared, holding, loaded, isAccepted, thePlan}
+use Rattle.box_rules.specs.Refuse.{refusal, refusals, mayStart}
+use Rattle.box_rules.specs.Turn.{Start, asked, join, finish, older, survives, aged, allows, fresh, startOf, turned, inSequence}
+use Rattle.box_rules.specs.Step.{Outcome, step, accepts, withSide, ticked}
+use Rattle.box_rules.specs.History.{Reached, by-clear, by-load, by-event}
+use Rattle.box_rules.specs.laws.Turns.{Outlives, begins, turned-start, turned-rest, live-cases}
+use Rattle.box_rules.specs.laws.Steps.{step-cases, side-cases}
+
+pub record FitRequest (r : state.Request) : Type 0 where
+  pub target : r .target < 64
+  pub kind : r .kind ≤ 1
+  pub length : r .length ≤ 4096
+  pub number : r .number < 65_536
+
+pub record FitLive (l : Live) : Type 0 where
+  pub request : FitRequest (l .request)
+  pub span : l .span ≤ 16
+  pub young : l .age < l .span
+
+pub record FitSide (s : Side) : Type 0 where
+  pub next : s .next < 65_536
+  pub few : length (s .line) ≤ 8
+  pub line : (r : state.Request) → List·Memᴰ r (s .line) → FitRequest r
+  pub live : (l : Live) → s .live ≡ some l → FitLive l
+
+pub record Fit (b : Box) : Type 0 where
+  pub sound : Sound (thePlan b)
+  pub sides : (i : ℕ) → FitSide (b .side i)
+  pub others : (i : ℕ) → isInitiator (thePlan b) i ≡ false → b .side i ≡ idle
+  pub byte : (w : ℕ) → b .last ≡ some w → w < 64
+
+-- a side's number and line
+record FitLine (s : Side) : Type 0 where
+  next : s .next < 65_536
+  few : length (s .line) ≤ 8
+  line : (r : state.Request) → List·Memᴰ r (s .line) → FitRequest r
+
+idle-fit : FitSide idle
+unfolding idle
+idle-fit = record { next = omega arith; few = omega arith; line = λ r m. absurd (List·Memᴰ·not-nil m); live = λ l h. none-some h }
+
+-- one side at a time-code
+module _ (p : Plan) (ok : Sound p) (q : Bool) (byte i : ℕ) (s : Side) where
+  older-fit : FitSide s → (l : Live) → Outlives q (s .live) l → FitLive l
+  unfolding older
+  older-fit f l o =
+      let w = f .live (o .was) (o .before) in
+      rw (o .is) (record { request = w .request; span = w .span; young = o .young })
+
+  start-fit : FitSide s → (x : Start) → startOf p q byte i s ≡ some x → FitLive (fresh x)
+  unfolding fresh
+  start-fit f x h =
+      let g = begins p q byte i s x h in
+      let at = (first-some (allows p (x .entry)) (s .line) (x .found) (g .found)) .0 in
+      record {
+        request = f .line (x .found .what) (at-member (s .line) (x .found .place) (x .found .what) at);
+        span = ok .spans (x .entry) (g .at .has);
+        young = ok .some-span (x .entry) (g .at .has);
+      }
+
+  -- the line is the old one, or the old one without the one that starts
+  kept-line : FitSide s → FitLine (aged q s)
+  unfolding aged
+  kept-line f = record { next = f .next; few = f .few; line = f .line }
+
+  left-line : FitSide s → (x : Start) → FitLine (record { next = s .next; line = without (x .found .place) (s .line); live = some (fresh x) })
+  left-line f x = record {
+    next = f .next;
+    few = omega (arith, f .few, without-short (s .line) (x .found .place));
+    line = λ r m. f .line r (without-member (s .line) (x .found .place) r m);
+  }
+
+  turned-line : FitSide s → (o : Option Start) → startOf p q byte i s ≡ o → FitLine (turned p q byte i s)
+  turned-line f none e = rw (turned-rest p q byte i s e) (kept-line f)
+  turned-line f (some x) e = rw (turned-start p q byte i s x e) (left-line f x)
+
+  turned-fit : FitSide s → FitSide (turned p q byte i s)
+  turned-fit f =
+      let l = turned-line f (startOf p q byte i s) refl in
+      record { next = l .next; few = l .few; line = l .line; live = λ l h. by l (live-cases p q byte i s l h) }
+    where
+      by : (l : Live) → Outlives q (s .live) l ⊎ ((x : Start) × (startOf p q byte i s ≡ some x) × (l ≡ fresh x)) → FitLive l
+      by l (inl o) = older-fit f l o
+      by l (inr x) = rw (x .2) (start-fit f (x .0) (x .1))
+
+-- an idle side of no initiator stays idle: no entry of it stands anywhere
+idle-turned : (p : Plan) → Sound p → (q : Bool) (byte i : ℕ) → isInitiator p i ≡ false → turned p q byte i idle ≡ idle
+unfolding aged survives idle
+idle-turned p ok q byte i out = go (startOf p q byte i idle) refl
+  where
+    go : (o : Option Start) → startOf p q byte i idle ≡ o → turned p q byte i idle ≡ idle
+    go none e = turned-rest p q byte i idle e
+    go (some x) e =
+        let g = begins p q byte i idle x e in
+        not-both (rw (g .at .own) at (ok .initiator (x .entry) (g .at .has))) out
+
+-- a request that is accepted
+module _ (room : ℕ) (b : Box) (i t k n : ℕ) (ok : Sound (thePlan b)) (h : refusal room b (Request i t k n) ≡ 0) where
+  asks-initiator : isInitiator (thePlan b) i ≡ true
+  unfolding refusal refusals rise testOf
+  asks-initiator = not-false (isInitiator (thePlan b) i) (no-row 22 (refusals room b (Request i t k n)) 0 refl h)
+
+  asked-fit : FitSide (b .side i) → FitRequest (asked t k n (b .side i))
+  unfolding refusal refusals rise testOf asked mayStart
+  asked-fit f =
+      let may = not-false (mayStart (thePlan b) ((thePlan b) .entries) i t n) (no-row 25 (refusals room b (Request i t k n)) 0 refl h) in
+      let (e, m, g) = any-elim _ ((thePlan b) .entries) may in
+      let a = both-true (eqb i (e .initiator)) (permits (thePlan b) e t n) g in
+      record {
+        target = ok .targets e m t (permits-target (thePlan b) e t n (a .1));
+        kind = ltb-false 1 k (no-row 23 (refusals room b (Request i t k n)) 0 refl h);
+        length = ltb-false 4096 n (no-row 24 (refusals room b (Request i t k n)) 0 refl h);
+        number = f .next;
+      }
+
+  join-fit : FitSide (b .side i) → FitSide (join t k n (b .side i))
+  unfolding join refusal refusals rise testOf
+  join-fit f =
+      let short = leb-false 8 (length ((b .side i) .line)) (no-row 26 (refusals room b (Request i t k n)) 0 refl h) in
+      record {
+        next = omega arith;
+        few = omega (arith, length-append ((b .side i) .line) (asked t k n (b .side i) ∷ []));
+        line = λ r m. by r (List·Memᴰ·append-cases ((b .side i) .line) m);
+        live = f .live;
+      }
+    where
+      by : (r : state.Request) → List·Memᴰ r ((b .side i) .line) ⊎ List·Memᴰ r (asked t k n (b .side i) ∷ []) → FitRequest r
+      by r (inl m) = f .line r m
+      by r (inr m) = rw (List·Memᴰ·eq-of-singleton m) (asked-fit f)
+
+finish-fit : (s : Side) → FitSide s → FitSide (finish s)
+unfolding finish
+finish-fit s f = record { next = f .next; few = f .few; line = f .line; live = λ l h. none-some h }
+
+-- one side changed, of an initiator
+changed-fit : (b : Box) (i : ℕ) (f : Side → Side) → Fit b → isInitiator (thePlan b) i ≡ true → FitSide (f (b .side i)) → Fit (withSide b i f)
+unfolding withSide thePlan
+changed-fit b i f fit is new = record {
+  sound = fit .sound;
+  sides = λ j. by j (eqb j i) refl;
+  others = λ j out. alone j out (eqb j i) refl;
+  byte = fit .byte;
+}
+  where
+    by : (j : ℕ) (x : Bool) → eqb j i ≡ x → FitSide (cond x (f (b .side j)) (b .side j))
+    by j true e = rw (eqb-true j i e) new
+    by j false e = fit .sides j
+
+    alone : (j : ℕ) → isInitiator (thePlan b) j ≡ false → (x : Bool) → eqb j i ≡ x → cond x (f (b .side j)) (b .side j) ≡ idle
+    alone j out true e = not-both is (rw (eqb-true j i e) at out)
+    alone j out false e = fit .others j out
+
+ticked-fit : (b : Box) (byte : ℕ) → byte < 64 → Fit b → Fit (ticked b byte)
+unfolding ticked thePlan
+ticked-fit b byte small fit = record {
+  sound = fit .sound;
+  sides = λ i. turned-fit (thePlan b) (fit .sound) (inSequence (b .last) byte) byte i (b .side i) (fit .sides i);
+  others = λ i out. rw (fit .others i out) (idle-turned (thePlan b) (fit .sound) (inSequence (b .last) byte) byte i out);
+  byte = λ w h. rw (← (some-some h)) small;
+}
+
+accepts-fit : (room : ℕ) (b : Box) (w : Watchdog) (e : Event) → refusal room b e ≡ 0 → Fit b → Fit ((accepts b w e) .box)
+unfolding accepts refusal refusals rise testOf
+accepts-fit room b w (TimeCode byte clock) h fit = ticked-fit b byte (leb-false 64 byte (no-row 21 (refusals room b (TimeCode byte clock)) 0 refl h)) fit
+accepts-fit room b w (Request i t k n) h fit = changed-fit b i (join t k n) fit (asks-initiator room b i t k n (fit .sound) h) (join-fit room b i t k n (fit .sound) h (fit .sides i))
+accepts-fit room b w (Reply i m status) h fit =
+    changed-fit b i finish fit (not-false (isInitiator (thePlan b) i) (no-row 22 (refusals room b (Reply i m status)) 0 refl h)) (finish-fit (b .side i) (fit .sides i))
+accepts-fit room b w (Reading clock) h fit = fit
+
+blank-fit : Fit cleared
+unfolding cleared thePlan
+blank-fit = record { sound = sound-blank; sides = λ i. idle-fit; others = λ i _. refl; byte = λ w h. none-some h }
+
+loaded-fit : AcceptedIsSound → (file : List ℕ) → Fit (loaded file)
+unfolding loaded isAccepted holding thePlan AcceptedIsSound
+loaded-fit ok file =
+    cond-cases Fit (isAccepted file) (holding (planOf file)) cleared
+    (λ h. record { sound = ok file (eqb-true (number (judge file)) 0 h); sides = λ i. idle-fit; others = λ i _. refl; byte = λ w e. none-some e })
+    (λ _. blank-fit)
+
+pub reached-fit : AcceptedIsSound → (b : Box) → Reached b → Fit b
+reached-fit ok b by-clear = blank-fit
+reached-fit ok b (by-load file) = loaded-fit ok file
+reached-fit ok b (by-event {b = c} r room w e) =
+    step-cases room c w e (λ (o : Outcome). Fit (o .box)) (λ h. accepts-fit room c w e h (reached-fit ok c r)) (λ _. reached-fit ok c r)
