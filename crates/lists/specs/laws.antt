@@ -13,3 +13,6 @@ pub mod Rising
 pub mod Append
 pub mod Pigeonhole
 pub mod Stores
+pub mod Found
+pub mod Told
+pub mod OneOrder

@@ -1,3 +1,4 @@
 pub mod Memory
 pub mod Take
 pub mod Head
+pub mod laws

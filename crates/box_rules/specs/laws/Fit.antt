@@ -1,23 +1,22 @@
 -- Every number of a reached box fits its place: requests, live transactions, lines and numbers are within document 01's bounds, and
 -- whoever is no initiator of the plan is idle. Run memory rests on this.
-use mathlib.Core.Path.{_≡_, refl, sym, ap, _∙_}
+use mathlib.Core.Path.{_≡_, refl}
 use mathlib.Core.Logic.{_⊎_, inl, inr}
-use mathlib.Core.List.{List, [], _∷_, _++_, List·Memᴰ, List·Memᴰ·append-cases, List·Memᴰ·eq-of-singleton, List·Memᴰ·not-nil}
+use mathlib.Core.List.{List, [], _∷_, List·Memᴰ, List·Memᴰ·append-cases, List·Memᴰ·eq-of-singleton, List·Memᴰ·not-nil}
 use mathlib.Core.Option.{Option, none, some}
-use mathlib.Core.Bool.{Bool, true, false, not, _&&_, cond}
-use Prim.Native.Nat.{ℕ, _+_, _%_, _≤_, _<_}
+use mathlib.Core.Bool.{Bool, true, false, cond}
+use Prim.Native.Nat.{ℕ, _≤_, _<_}
 use native.Mathlib.Omega.{arith}
 use lib.ListN.{length, length-append}
 use lib.Dec.{eqb}
 use borrow.Author.Tests.{eqb-true, ltb-false, leb-false, not-false}
-use Rattle.lists.specs.Search.{any}
 use Rattle.lists.specs.Rows.{testOf}
 use Rattle.lists.specs.Place.{without}
 use Rattle.lists.specs.laws.Bools.{both-true, not-both, none-some, some-some, cond-cases}
 use Rattle.lists.specs.laws.Search.{any-elim}
 use Rattle.lists.specs.laws.Rows.{rise, no-row}
 use Rattle.lists.specs.laws.Place.{first-some, at-member, without-member, without-short}
-use Rattle.plan_rules.specs.Plan.{Entry, Plan}
+use Rattle.plan_rules.specs.Plan.{Plan}
 use Rattle.plan_rules.specs.Meaning.{isInitiator, permits}
 use Rattle.plan_rules.specs.Verdict.{number}
 use Rattle.plan_rules.specs.Judge.{judge}
@@ -32,10 +31,10 @@ use Rattle.box_rules.specs.State as state
 use Rattle.box_rules.specs.State.{Box, Side, Live, idle, cleared, holding, loaded, isAccepted, thePlan}
 use Rattle.box_rules.specs.Refuse.{refusal, refusals, mayStart}
 use Rattle.box_rules.specs.Turn.{Start, asked, join, finish, older, survives, aged, allows, fresh, startOf, turned, inSequence}
-use Rattle.box_rules.specs.Step.{Outcome, step, accepts, withSide, ticked}
+use Rattle.box_rules.specs.Step.{Outcome, accepts, withSide, ticked}
 use Rattle.box_rules.specs.History.{Reached, by-clear, by-load, by-event}
 use Rattle.box_rules.specs.laws.Turns.{Outlives, begins, turned-start, turned-rest, live-cases}
-use Rattle.box_rules.specs.laws.Steps.{step-cases, side-cases}
+use Rattle.box_rules.specs.laws.Steps.{step-cases}
 
 pub record FitRequest (r : state.Request) : Type 0 where
   pub target : r .target < 64

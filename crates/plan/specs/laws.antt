@@ -1,0 +1,5 @@
+pub mod SameMemory
+pub mod ToldPlan
+pub mod ToldEntries
+pub mod OneMemory
+pub mod BlankMemory

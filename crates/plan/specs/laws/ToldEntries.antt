@@ -1,0 +1,91 @@
+-- What two plans with equal arrays have in common: the entries, from `rows`, `spans` and `aims`.
+use mathlib.Core.Path.{_≡_, refl, sym, ap, _∙_}
+use mathlib.Core.List.{List, [], _∷_, List·Memᴰ, List·Memᴰ·head}
+use mathlib.Core.Option.{Option, none, some}
+use mathlib.Core.Bool.{true}
+use Prim.Native.Nat.{ℕ, _+_, _*_, _/_, _%_, _≤_, _<_}
+use native.Mathlib.Omega.{arith}
+use lib.ListN.{length}
+use lib.Dec.{eqb}
+use borrow.Author.Tests.{eqb-true, eq-eqb, not-false}
+use Rattle.lists.specs.Search.{all, below64}
+use Rattle.lists.specs.Place.{atPlace}
+use Rattle.lists.specs.Cells.{cells}
+use Rattle.lists.specs.laws.Bools.{both-true, true-both}
+use Rattle.lists.specs.laws.Search.{all-elim, find-some, keep-same, below64-range}
+use Rattle.lists.specs.laws.Order.{one-pair}
+use Rattle.lists.specs.laws.Found.{find-one, place-of}
+use Rattle.lists.specs.laws.Told.{cells-told}
+use Rattle.lists.specs.laws.OneOrder.{Among}
+use Rattle.plan_rules.specs.Plan.{Entry, Plan, entry}
+use Rattle.plan_rules.specs.Meaning.{initiators, hasPath, standsAt, entryAt}
+use Rattle.plan_rules.specs.Judge.{noPath}
+use Rattle.plan_rules.specs.Canon.{rising, withRising}
+use Rattle.plan_rules.specs.Good.{Good, sameEntryPlace}
+use Rattle.plan_rules.specs.laws.Items.{entry-in}
+use Rattle.plan_rules.specs.laws.Ranges.{EntryRange}
+use Rattle.plan_rules.specs.laws.InRange.{entry-ranged}
+use Rattle.plan_rules.specs.laws.Lengths.{entry-length}
+use Rattle.plan_rules.specs.laws.Initiators.{in-initiators}
+use Rattle.plan_rules.specs.laws.GoodSound.{path-initiator}
+use Rattle.plan.specs.Memory.{ofRow, spanOf, spansOf, aimOf, aimsOf}
+use Rattle.plan.specs.laws.ToldPlan.{packed-told}
+
+-- the initiator of an entry has a row: some target of the entry has a path from it
+pub entry-initiator : (p : Plan) → Good p → (e : Entry) → List·Memᴰ e (p .entries) → List·Memᴰ (e .initiator) (initiators p)
+unfolding noPath
+entry-initiator p g e m = go (e .targets) refl
+  where
+    reached : all (hasPath p (e .initiator)) (e .targets) ≡ true
+    reached = not-false _ (g .reached (entry e) (entry-in p e m))
+
+    go : (ts : List ℕ) → e .targets ≡ ts → List·Memᴰ (e .initiator) (initiators p)
+    go [] d = let z : length (e .targets) ≡ 0 = rw d in absurd (omega (arith, (entry-length e (g .lengths (entry e) (entry-in p e m))) .0))
+    go (t ∷ ts) d = in-initiators p (e .initiator) ((entry-ranged p (g .ranges) e m) .initiator)
+        (path-initiator p (e .initiator) t (all-elim _ (e .targets) t reached (rw d (List·Memᴰ·head refl))))
+
+-- the row of an initiator gives what there is for it
+row-of : (p : Plan) (r i : ℕ) (f : ℕ → ℕ) → atPlace r (initiators p) ≡ some i → ofRow p r f ≡ f i
+unfolding ofRow
+row-of p r i f e = rw (e, ofRow)
+
+-- what is read off the entry of an initiator at a slot
+module _ (p q : Plan) (e : initiators p ≡ initiators q) (eight : length (initiators p) ≤ 8) where
+  read-told : (g : Option Entry → ℕ)
+      → cells 512 (λ (n : ℕ). ofRow p (n / 64) (λ (i : ℕ). g (entryAt (p .entries) i (n % 64)))) ≡ cells 512 (λ (n : ℕ). ofRow q (n / 64) (λ (i : ℕ). g (entryAt (q .entries) i (n % 64))))
+      → (i v : ℕ) → List·Memᴰ i (initiators p) → v < 64 → g (entryAt (p .entries) i v) ≡ g (entryAt (q .entries) i v)
+  read-told g h i v m l =
+      let (r, k, f) = place-of (initiators p) i m in
+      let a : (64 * r + v) / 64 ≡ r = omega arith in
+      let b : (64 * r + v) % 64 ≡ v = omega arith in
+      let c : ofRow p r (λ (i : ℕ). g (entryAt (p .entries) i v)) ≡ ofRow q r (λ (i : ℕ). g (entryAt (q .entries) i v)) = rw (a, b) at (cells-told 512 _ _ h (64 * r + v) (omega arith)) in
+      sym (row-of p r i _ f) ∙ c ∙ row-of q r i _ (ap (atPlace r) (sym e) ∙ f)
+
+  -- each entry of p is one of q, up to the order of its targets
+  pub told-entries : Good p → spansOf p ≡ spansOf q → aimsOf p ≡ aimsOf q → Among withRising (p .entries) (q .entries)
+  unfolding spansOf aimsOf spanOf aimOf entryAt standsAt sameEntryPlace withRising rising
+  told-entries good spans aims x m = go (entryAt (q .entries) (x .initiator) (x .slot)) refl
+    where
+      range : EntryRange x
+      range = entry-ranged p (good .ranges) x m
+
+      row : List·Memᴰ (x .initiator) (initiators p)
+      row = entry-initiator p good x m
+
+      mine : entryAt (p .entries) (x .initiator) (x .slot) ≡ some x
+      mine = find-one (standsAt (x .initiator) (x .slot)) (p .entries) x (one-pair (λ e. e .initiator) (λ e. e .slot) (p .entries) (good .entries) (x .initiator) (x .slot)) m
+          (true-both (eq-eqb (x .initiator) (x .initiator) refl) (eq-eqb (x .slot) (x .slot) refl))
+
+      span : (o : Option Entry) → entryAt (q .entries) (x .initiator) (x .slot) ≡ o → x .span ≡ spanOf o
+      span o f = rw (mine, f) at (read-told spanOf spans (x .initiator) (x .slot) row (range .slot))
+
+      aim : (o : Option Entry) → entryAt (q .entries) (x .initiator) (x .slot) ≡ o → aimOf (some x) ≡ aimOf o
+      aim o f = rw (mine, f) at (read-told aimOf aims (x .initiator) (x .slot) row (range .slot))
+
+      go : (o : Option Entry) → entryAt (q .entries) (x .initiator) (x .slot) ≡ o → (y : Entry) × List·Memᴰ y (q .entries) × (withRising x ≡ withRising y)
+      go none f = absurd (omega (arith, range .some-span, span none f))
+      go (some y) f =
+          let (n, t) = find-some (standsAt (x .initiator) (x .slot)) (q .entries) y f in
+          let (a, b) = both-true (eqb (x .initiator) (y .initiator)) (eqb (x .slot) (y .slot)) t in
+          let c : rising (x .targets) ≡ rising (y .targets) = keep-same _ _ below64 (λ k i. packed-told _ _ (aim (some y) f) k (below64-range k i)) in
+          (y, n, rw (eqb-true (x .initiator) (y .initiator) a, eqb-true (x .slot) (y .slot) b, span (some y) f, c))
