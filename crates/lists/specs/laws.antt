@@ -16,3 +16,6 @@ pub mod Stores
 pub mod Found
 pub mod Told
 pub mod OneOrder
+pub mod At
+pub mod More
+pub mod Scan

@@ -18,6 +18,7 @@ pub mod Whole
 pub mod Accepted
 pub mod Ordered
 pub mod Reads
+pub mod Entries
 pub mod Size
 pub mod GoodSound
 pub mod Runs

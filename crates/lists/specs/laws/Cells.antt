@@ -4,6 +4,9 @@ use mathlib.Core.List.{List, map}
 use Prim.Native.Nat.{ℕ, zero, suc, _+_, _-_, _≤_, _<_}
 use native.Mathlib.Omega.{arith}
 use native.Mathlib.Decide.{ℕ-discrete}
+use mathlib.Core.Bool.{cond}
+use lib.Dec.{eqb}
+use borrow.Author.Tests.{eq-eqb, ne-eqb}
 use lib.ListN.{length, getD, set, replicate, length-append, length-replicate, length-set}
 use lib.Seq.{ext-getD, getD-set-same, getD-set-other}
 use Rattle.lists.specs.Search.{upFrom}
@@ -52,3 +55,25 @@ module _ {A : Type 0} where
   pub length-padded : (n : ℕ) (d : A) (xs : List A) → length xs ≤ n → length (padded n d xs) ≡ n
   unfolding padded
   length-padded n d xs h = length-append xs (replicate (n - length xs) d) ∙ omega (arith, length-replicate (n - length xs) d)
+
+-- two cells stored anew, one after the other
+-- the two are what g says, and so are the others: the list is that of g
+pub cells-set-two : {A : Type 0} (n : ℕ) (f g : ℕ → A) (d : A) (i j : ℕ) (x y : A) → i < n → j < n → (i ≡ j → ⊥) → x ≡ g i → y ≡ g j
+    → ((k : ℕ) → k < n → (k ≡ i → ⊥) → (k ≡ j → ⊥) → f k ≡ g k) → set (set (cells n f) i x) j y ≡ cells n g
+cells-set-two {A} n f g d i j x y hi hj apart ei ej others =
+    ap (λ l. set l j y) (cells-set n f h d i x hi (sym stored) (λ k _ s. sym (kept k s)))
+    ∙ cells-set n h g d j y hj ej (λ k l s. at k l s (ℕ-discrete k i))
+  where
+    -- after the first store
+    h : ℕ → A
+    h k = cond (eqb k i) x (f k)
+
+    stored : h i ≡ x
+    stored = rw (eq-eqb i i refl)
+
+    kept : (k : ℕ) → (k ≡ i → ⊥) → h k ≡ f k
+    kept k s = rw (ne-eqb k i s)
+
+    at : (k : ℕ) → k < n → (k ≡ j → ⊥) → Dec (k ≡ i) → h k ≡ g k
+    at k l s (yes e) = rw e (stored ∙ ei)
+    at k l s (no e) = kept k e ∙ others k l e s

@@ -1,56 +1,31 @@
 -- A good plan is sound.
 use mathlib.Core.Path.{_≡_, refl, sym}
 use mathlib.Core.Logic.{_≢_}
-use mathlib.Core.List.{List, [], _∷_, List·Memᴰ, List·Memᴰ·head}
+use mathlib.Core.List.{List·Memᴰ}
 use mathlib.Core.Bool.{Bool, true, false}
 use Prim.Native.Nat.{ℕ, _<_}
 use native.Mathlib.Omega.{arith}
 use native.Mathlib.Decide.{decLt}
-use lib.ListN.{length}
-use lib.Dec.{eqb}
-use borrow.Author.Tests.{eq-eqb, not-false}
-use Rattle.lists.specs.laws.Bools.{both-true, true-both}
-use Rattle.lists.specs.laws.Search.{any-elim, any-intro, all-elim}
+use borrow.Author.Tests.{eq-eqb}
+use Rattle.lists.specs.laws.Bools.{true-both}
 use Rattle.lists.specs.laws.Append.{repeats-one}
-use Rattle.plan_rules.specs.Plan.{Entry, Plan, entry}
-use Rattle.plan_rules.specs.Meaning.{isInitiator, hasPath, leadsFrom, mayUse, runsInto}
-use Rattle.plan_rules.specs.Judge.{noPath}
+use Rattle.plan_rules.specs.Plan.{Entry, Plan}
+use Rattle.plan_rules.specs.Meaning.{mayUse, runsInto}
 use Rattle.plan_rules.specs.Good.{Good, sameEntryPlace}
 use Rattle.plan_rules.specs.laws.Ranges.{EntryRange}
-use Rattle.plan_rules.specs.laws.Lengths.{entry-length}
-use Rattle.plan_rules.specs.laws.Items.{entry-in}
-use Rattle.plan_rules.specs.laws.InRange.{entry-ranged}
+use Rattle.plan_rules.specs.laws.Entries.{entry-ranges, entry-initiator}
 use Rattle.plan_rules.specs.laws.Overruns.{runs-into, overrun-none}
 use Rattle.plan_rules.specs.laws.Clashes.{clash-test, clash-none}
 use Rattle.plan_rules.specs.laws.Sound.{Sound}
 
--- a path from i makes i an initiator
-pub path-initiator : (p : Plan) (i t : ℕ) → hasPath p i t ≡ true → isInitiator p i ≡ true
-unfolding hasPath isInitiator leadsFrom
-path-initiator p i t h =
-    let (x, m, e) = any-elim (leadsFrom i t) (p .paths) h in
-    any-intro _ (p .paths) x m ((both-true (eqb i (x .initiator)) (eqb t (x .target)) e) .0)
-
 module _ (p : Plan) (good : Good p) where
   pub good-entry : (e : Entry) → List·Memᴰ e (p .entries) → EntryRange e
-  good-entry = entry-ranged p (good .ranges)
-
-  -- every target of an entry has a path
-  pub good-path : (e : Entry) (t : ℕ) → List·Memᴰ e (p .entries) → List·Memᴰ t (e .targets) → hasPath p (e .initiator) t ≡ true
-  unfolding noPath
-  good-path e t m n = all-elim (hasPath p (e .initiator)) (e .targets) t (not-false _ (good .reached (entry e) (entry-in p e m))) n
-
-  pub good-initiator : (e : Entry) → List·Memᴰ e (p .entries) → isInitiator p (e .initiator) ≡ true
-  good-initiator e m = go (e .targets) refl
-    where
-      go : (ts : List ℕ) → e .targets ≡ ts → isInitiator p (e .initiator) ≡ true
-      go [] h = let z : length (e .targets) ≡ 0 = rw h in absurd (omega (arith, (entry-length e (good .lengths (entry e) (entry-in p e m))) .0))
-      go (t ∷ ts) h = path-initiator p (e .initiator) t (good-path e t m (rw h (List·Memᴰ·head refl)))
+  good-entry = entry-ranges p (good .lengths) (good .ranges) (good .reached)
 
   pub good-sound : Sound p
   unfolding sameEntryPlace
   good-sound = record {
-    initiator = good-initiator;
+    initiator = entry-initiator p (good .lengths) (good .ranges) (good .reached);
     below = λ e m. (good-entry e m) .initiator;
     slots = λ e m. (good-entry e m) .slot;
     some-span = λ e m. (good-entry e m) .some-span;

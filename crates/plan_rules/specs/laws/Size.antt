@@ -4,19 +4,16 @@ use Prim.Native.Nat.{ℕ, _*_, _≤_}
 use native.Mathlib.Omega.{arith}
 use lib.ListN.{length, length-append, length-map}
 use borrow.Author.Tests.{eq-eqb}
-use Rattle.lists.specs.laws.Bools.{true-both}
 use Rattle.lists.specs.laws.Append.{flat-append}
-use Rattle.lists.specs.laws.Pigeonhole.{flat-most, below64-most, pairs-most}
-use Rattle.plan_rules.specs.Plan.{Device, Link, Entry, Plan, Item, device, link, path, entry, timing}
+use Rattle.lists.specs.laws.Pigeonhole.{flat-most, below64-most}
+use Rattle.plan_rules.specs.Plan.{Device, Link, Plan, Item, device, link, path, entry, timing}
 use Rattle.plan_rules.specs.Fields.{contentFor, fieldFor, fourBytes}
-use Rattle.plan_rules.specs.Meaning.{initiators}
 use Rattle.plan_rules.specs.Canon.{items, written}
-use Rattle.plan_rules.specs.Good.{Good, sameDeviceNumber, sameLinkNumber, sameEntryPlace}
+use Rattle.plan_rules.specs.Good.{Good, sameDeviceNumber, sameLinkNumber}
 use Rattle.plan_rules.specs.laws.Ranges.{device-range, link-range}
 use Rattle.plan_rules.specs.laws.Lengths.{path-length, entry-length}
 use Rattle.plan_rules.specs.laws.Items.{device-in, link-in, path-in, entry-in}
-use Rattle.plan_rules.specs.laws.Initiators.{in-initiators}
-use Rattle.plan_rules.specs.laws.GoodSound.{good-entry, good-initiator}
+use Rattle.plan_rules.specs.laws.Entries.{entries-most}
 
 -- the fields of one kind
 fields-most : {A : Type 0} (make : A → Item) (most : ℕ) (xs : List A) → ((x : A) → List·Memᴰ x xs → length (fieldFor (make x)) ≤ most) → length (flatMap fieldFor (map make xs)) ≤ length xs * most
@@ -32,16 +29,7 @@ module _ (p : Plan) (good : Good p) where
   most-links = below64-most sameLinkNumber (λ (l : Link). l .num) (p .links) (λ l m e. eq-eqb (l .num) (m .num) e) (λ l m. (link-range l (good .ranges (link l) (link-in p l m))) .num) (good .links)
 
   pub most-entries : length (p .entries) ≤ 512
-  unfolding sameEntryPlace
-  most-entries =
-      omega (
-        arith,
-        good .eight,
-        pairs-most sameEntryPlace (λ (e : Entry). e .initiator) (λ (e : Entry). e .slot) (p .entries) (initiators p)
-            (λ e f i s. true-both (eq-eqb (e .initiator) (f .initiator) i) (eq-eqb (e .slot) (f .slot) s))
-            (λ e m. in-initiators p (e .initiator) ((good-entry p good e m) .initiator) (good-initiator p good e m))
-            (λ e m. (good-entry p good e m) .slot) (good .entries),
-      )
+  most-entries = entries-most p (good .lengths) (good .ranges) (good .reached) (good .entries) (good .eight)
 
   pub most-bytes : length (written p) ≤ 13_643
   unfolding written items fieldFor contentFor fourBytes

@@ -1,0 +1,86 @@
+-- Laws of the rows: what the search through the rows tells of an initiator, and what an array in rows has for it.
+use mathlib.Core.Path.{_≡_, refl, sym, ap, _∙_}
+use mathlib.Core.Logic.{by-cases}
+use mathlib.Core.List.{List}
+use mathlib.Core.Option.{some}
+use mathlib.Core.Bool.{Bool, true, false}
+use Prim.Native.Nat.{ℕ, _≤_, _<_, min}
+use native.Mathlib.Decide.{decLt}
+use native.Mathlib.Omega.{arith}
+use lib.ListN.{length}
+use lib.Dec.{eqb}
+use borrow.Author.Tests.{eqb-true, eq-eqb}
+use Rattle.lists.specs.Numbers.{firstFrom}
+use Rattle.lists.specs.Place.{atPlace}
+use Rattle.lists.specs.laws.Bools.{not-both}
+use Rattle.lists.specs.laws.Numbers.{Finds, first-from}
+use Rattle.lists.specs.laws.Cells.{cell-at}
+use Rattle.lists.specs.laws.At.{member-at, place-at, place-in, no-place, padded-at, place-once}
+use Rattle.sets.specs.Set.{packed}
+use Rattle.plan_rules.specs.Plan.{nth, Plan}
+use Rattle.plan_rules.specs.Meaning.{isInitiator, initiators, hasPath}
+use Rattle.plan_rules.specs.laws.Initiators.{initiator-in, in-initiators, initiators-once}
+use Rattle.plan_rules.specs.laws.Fair.{Fair}
+use Rattle.plan_memory.specs.Memory.{rowsOf, ofRow, reachOf}
+
+-- row k is that of i
+abbrev pub isRow : List ℕ → ℕ → ℕ → Bool
+isRow rows i k = eqb i (nth rows k)
+
+-- the search ends by the eighth row at the latest
+pub row-most : (rows : List ℕ) (count i r : ℕ) → r ≡ firstFrom (min count 8) 0 (isRow rows i) → r ≤ 8
+row-most rows count i r found = omega (arith, found, first-from (min count 8) 0 (isRow rows i) .upto)
+
+-- an initiator has one row only
+pub row-once : (p : Plan) (r s i : ℕ) → atPlace r (initiators p) ≡ some i → atPlace s (initiators p) ≡ some i → r ≡ s
+row-once p r s i = place-once (initiators p) r s i (initiators-once p)
+
+-- what an array in rows has in the row of i, and behind the last row
+pub of-row : (p : Plan) (r i : ℕ) (f : ℕ → ℕ) → atPlace r (initiators p) ≡ some i → ofRow p r f ≡ f i
+unfolding ofRow
+of-row p r i f e = rw (e, ofRow)
+
+pub of-no-row : (p : Plan) (r : ℕ) (f : ℕ → ℕ) → length (initiators p) ≤ r → ofRow p r f ≡ 0
+unfolding ofRow
+of-no-row p r f h = rw (no-place (initiators p) r h, ofRow)
+
+pub reach-at : (p : Plan) (reach : List ℕ) → reach ≡ reachOf p → (r i : ℕ) → atPlace r (initiators p) ≡ some i → r < 8 → nth reach r ≡ packed (hasPath p i)
+unfolding reachOf
+reach-at p reach held r i row short = rw held (cell-at 8 _ r 0 short ∙ of-row p r i _ row)
+
+-- r is what the search through the rows finds for i
+module _ (p : Plan) (fair : Fair p) (rows : List ℕ) (held : rows ≡ rowsOf p) (count : ℕ) (counted : count ≡ length (initiators p)) (i r : ℕ)
+    (found : r ≡ firstFrom (min count 8) 0 (isRow rows i)) where
+  finds : Finds (min count 8) 0 (isRow rows i) r
+  finds = rw found (first-from (min count 8) 0 (isRow rows i))
+
+  -- the rows are the initiators
+  row-at : (k : ℕ) → k < count → nth rows k ≡ nth (initiators p) k
+  unfolding rowsOf
+  row-at k h = rw held (padded-at 8 0 (initiators p) k 0 (omega arith))
+
+  pub row-within : r < count → r < 8
+  row-within h = omega (arith, fair .lists .paths .eight)
+
+  -- below the count it is the row of i, and i an initiator
+  pub row-place : r < count → atPlace r (initiators p) ≡ some i
+  row-place h =
+      let e : i ≡ nth rows r = eqb-true i (nth rows r) (finds .found (omega (arith, row-within h))) in
+      place-at (initiators p) r 0 (omega arith) ∙ ap some (sym (row-at r h) ∙ sym e)
+
+  pub row-initiator : r < count → isInitiator p i ≡ true
+  row-initiator h = initiator-in p i ((place-in (initiators p) r i (row-place h)) .0)
+
+  -- else i is none
+  pub row-none : i < 64 → count ≤ r → isInitiator p i ≡ false
+  row-none b h = go (isInitiator p i) refl
+    where
+      go : (x : Bool) → isInitiator p i ≡ x → x ≡ false
+      go true e =
+          let (k, l, g) = member-at (initiators p) i 0 (in-initiators p i b e) in
+          not-both (eq-eqb i (nth rows k) (sym (row-at k (omega arith) ∙ g))) (finds .before k (omega arith) (omega arith))
+      go false e = refl
+
+  -- so an initiator has its row below the count
+  pub row-has : i < 64 → isInitiator p i ≡ true → r < count
+  row-has b e = by-cases (decLt r count) (λ h. h) (λ h. not-both e (row-none b (omega arith)))

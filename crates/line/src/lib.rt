@@ -1,0 +1,2 @@
+// The printed verdict: one line in a lent buffer.
+pub mod print;

@@ -1,4 +1,0 @@
-pub mod Memory
-pub mod Take
-pub mod Head
-pub mod laws

@@ -1,0 +1,3 @@
+pub mod Memory
+pub mod Take
+pub mod laws

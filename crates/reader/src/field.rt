@@ -1,0 +1,124 @@
+// The field reader: one field at an offset of the file, its head judged, its content handed on as a part of the file's own bytes.
+ghost use mathlib.Core.Path.{_≡_};
+ghost use mathlib.Core.Bool.{_&&_};
+ghost use Prim.Native.Nat.{_+_, _*_, _≤_};
+ghost use lib.Dec.{leb};
+ghost use lib.ListN.{length, take, drop};
+ghost use Rattle.plan_rules.specs.Plan.{two, four};
+ghost use Rattle.plan_rules.specs.Fields.{isTag, comesOnce, lengthAllowed};
+ghost use Rattle.reader.specs.Head.{headOf};
+
+// The head of a field: verdict 2 to 5, or the tag and the size of the content.
+pub enum Head {
+    Fault { number: u8 },
+    Field { tag: u8, size: u16 },
+}
+
+// The number of two bytes, most significant first.
+fn word(high: u8, low: u8) -> u16
+    ensures { λ r. ⌜ r ≡ high * 256 + low ⌝ }
+{
+    (high as u16) * 256 + low as u16
+}
+
+// Two and four bytes at a place as a number, most significant first.
+fn two_at(s: &[u8], at: usize) -> u16
+    requires { ⌜ at + 2 ≤ length (now s) ⌝ }
+    ensures { λ r. ⌜ r ≡ two (now (s .entry)) at ⌝ }
+{
+    word(s[at], s[at + 1])
+}
+
+pub fn four_at(s: &[u8], at: usize) -> u32
+    requires { ⌜ at + 4 ≤ length (now s) ⌝ }
+    ensures { λ r. ⌜ r ≡ four (now (s .entry)) at ⌝ }
+{
+    (two_at(s, at) as u32) * 65536 + two_at(s, at + 2) as u32
+}
+
+fn is_tag(tag: u8) -> bool
+    ensures { λ r. ⌜ r ≡ isTag tag ⌝ }
+{
+    match tag {
+        1..=5 => true,
+        _ => false,
+    }
+}
+
+fn comes_once(tag: u8) -> bool
+    ensures { λ r. ⌜ r ≡ comesOnce tag ⌝ }
+{
+    tag == 5
+}
+
+fn between(least: u16, size: u16, most: u16) -> bool
+    ensures { λ r. ⌜ r ≡ (leb least size && leb size most) ⌝ }
+{
+    if size < least {
+        return false;
+    }
+    size <= most
+}
+
+// The table of document 01: "tag, length".
+fn length_allowed(tag: u8, size: u16) -> bool
+    ensures { λ r. ⌜ r ≡ lengthAllowed tag size ⌝ }
+{
+    match tag {
+        1 => between(2, size, 2),
+        2 => between(3, size, 3),
+        3 => between(3, size, 10),
+        4 => between(4, size, 19),
+        5 => between(8, size, 8),
+        _ => false,
+    }
+}
+
+// Reads a field's tag and length, and judges them.
+pub fn head_at(file: &[u8], at: usize, before: u8) -> Head
+    ensures { λ r. ⌜ r ≡ headOf (now (file .entry)) at before ⌝ }
+{
+    let len = file.len();
+    if len < at {
+        return Head::Fault { number: 2 };
+    }
+    let left = len - at;
+    if left < 3 {
+        return Head::Fault { number: 2 };
+    }
+    let size = two_at(file, at + 1);
+    if left - 3 < size as usize {
+        return Head::Fault { number: 2 };
+    }
+    let tag = file[at];
+    if !is_tag(tag) {
+        return Head::Fault { number: 3 };
+    }
+    if tag < before {
+        return Head::Fault { number: 4 };
+    }
+    if tag == before {
+        if comes_once(tag) {
+            return Head::Fault { number: 4 };
+        }
+    }
+    if !length_allowed(tag, size) {
+        return Head::Fault { number: 5 };
+    }
+    Head::Field { tag, size }
+}
+
+// "A field's content is handed on as a part of the file's own bytes": size bytes from start on, as many of them as there are.
+pub fn part(file: &[u8], start: usize, size: usize) -> &[u8]
+    ensures { λ r. ⌜ now r ≡ take size (drop start (now (file .entry))) ⌝ }
+{
+    let len = file.len();
+    if len < start {
+        return &file[len..];
+    }
+    if len - start < size {
+        return &file[start..];
+    }
+    let end = start + size;
+    &file[start..end]
+}
