@@ -19,3 +19,6 @@ pub mod OneOrder
 pub mod At
 pub mod More
 pub mod Scan
+pub mod Flat
+pub mod Members
+pub mod Sweep

@@ -1,15 +1,15 @@
 -- What a plan means, against the paper's sentences: covering, using a link, permitting.
 use mathlib.Core.Path.{_≡_}
-use mathlib.Core.Bool.{true, _&&_}
 use Prim.Native.Nat.{_+_, _-_, _*_, _%_, _<_}
 use native.Mathlib.Omega.{arith}
-use lib.Dec.{leb, eqb}
-use borrow.Author.Tests.{ltb-true, lt-ltb, leb-true, le-leb, eqb-true, eq-eqb}
+use lib.Dec.{leb}
+use borrow.Author.Tests.{ltb-true, lt-ltb, leb-true, le-leb}
 use Rattle.lists.specs.Search.{isIn}
 use Rattle.lists.specs.laws.Bools.{both-true, true-both}
-use Rattle.lists.specs.laws.Search.{any-elim, any-intro, isIn-elim, isIn-intro}
-use Rattle.plan_rules.specs.Meaning.{covers, uses, leadsFrom, fits, permits}
-use Rattle.plan_rules.specs.Promises.{CoversAsWorded, OnPath, UsesAsWorded, PermitsAsWorded}
+use Rattle.lists.specs.laws.Search.{isIn-elim, isIn-intro}
+use Rattle.plan_rules.specs.Meaning.{covers, fits, permits}
+use Rattle.plan_rules.specs.laws.Uses.{on-path}
+use Rattle.plan_rules.specs.Promises.{CoversAsWorded, UsesAsWorded, PermitsAsWorded}
 
 pub covers-as-worded : CoversAsWorded
 unfolding CoversAsWorded covers
@@ -25,20 +25,8 @@ covers-as-worded e s a b c = (
 )
 
 pub uses-as-worded : UsesAsWorded
-unfolding UsesAsWorded uses leadsFrom
-uses-as-worded p i t l = (there, back)
-  where
-    there : uses p i t l ≡ true → OnPath p i t l
-    there h =
-        let (x, m, g) = any-elim _ (p .paths) h in
-        let a = both-true (eqb i (x .initiator) && eqb t (x .target)) (isIn l (x .links)) g in
-        let b = both-true (eqb i (x .initiator)) (eqb t (x .target)) (a .0) in
-        record { route = x; has = m; from = eqb-true _ _ (b .0); to = eqb-true _ _ (b .1); on = isIn-elim l (x .links) (a .1) }
-
-    back : OnPath p i t l → uses p i t l ≡ true
-    back o =
-        any-intro _ (p .paths) (o .route) (o .has)
-        (true-both (true-both (eq-eqb _ _ (o .from)) (eq-eqb _ _ (o .to))) (isIn-intro l (o .route .links) (o .on)))
+unfolding UsesAsWorded
+uses-as-worded = on-path
 
 pub permits-as-worded : PermitsAsWorded
 unfolding PermitsAsWorded permits fits

@@ -4,6 +4,7 @@ pub mod Ranges
 pub mod Lengths
 pub mod Items
 pub mod InRange
+pub mod Uses
 pub mod Overruns
 pub mod Clashes
 pub mod Once

@@ -1,26 +1,27 @@
 -- Verdict 14: what `clash` finds is the clash in words, with the least slot, then the least initiators, then the least link.
-use mathlib.Core.Path.{_≡_, sym}
+use mathlib.Core.Path.{_≡_, refl, sym}
 use mathlib.Core.Logic.{_↔_}
 use mathlib.Core.List.{List, List·Memᴰ}
 use mathlib.Core.Option.{none, some}
-use mathlib.Core.Bool.{true, _&&_, false}
-use Prim.Native.Nat.{ℕ, _+_, _*_, _<_}
+use mathlib.Core.Bool.{true, false, _&&_}
+use Prim.Native.Nat.{ℕ, _+_, _*_, _≤_, _<_}
 use native.Mathlib.Omega.{arith}
 use lib.Dec.{ltb, eqb}
 use borrow.Author.Tests.{ltb-true, lt-ltb, eqb-true, eq-eqb}
-use Rattle.lists.specs.Search.{any, isIn}
+use Rattle.lists.specs.Search.{any}
 use Rattle.lists.specs.laws.Bools.{both-true, true-both}
-use Rattle.lists.specs.laws.Search.{any-elim, any-intro, isIn-elim}
+use Rattle.lists.specs.laws.Search.{any-elim, any-intro}
 use Rattle.lists.specs.laws.Least.{Least, Finds, finds, finds-none, finds-behind, finds-when, finds-within}
 use Rattle.plan_rules.specs.declared.Verdict.{Verdict}
 use Rattle.plan_rules.specs.declared.Verdict.the-variants.{Clash}
-use Rattle.plan_rules.specs.Plan.{Route, Entry, Plan}
-use Rattle.plan_rules.specs.Meaning.{leadsFrom, uses, covers, reaches, mayUse, isAtWork}
+use Rattle.plan_rules.specs.Plan.{Entry, Plan}
+use Rattle.plan_rules.specs.Meaning.{uses, covers, reaches, mayUse, isAtWork}
 use Rattle.plan_rules.specs.Judge.{outOfRange, clashOn, clashWith, clashOf, clashIn, clash}
 use Rattle.plan_rules.specs.Good.{Each}
-use Rattle.plan_rules.specs.Words.{Clashing, LeastClash}
+use Rattle.plan_rules.specs.Words.{Clashing, pair, LeastClash}
 use Rattle.plan_rules.specs.laws.Ranges.{EntryRange}
 use Rattle.plan_rules.specs.laws.InRange.{path-ranged}
+use Rattle.plan_rules.specs.laws.Uses.{on-path}
 
 -- initiator i may use link l in slot v: by an entry that covers v, for a target
 pub record May (p : Plan) (es : List Entry) (v i l : ℕ) : Type 0 where
@@ -53,20 +54,17 @@ at-work p es v i l m = any-intro (λ (e : Entry). eqb i (e .initiator) && covers
 
 -- a link that is used is below 64
 pub used-low : (p : Plan) (i t l : ℕ) → Each p outOfRange false → uses p i t l ≡ true → l < 64
-unfolding uses
-used-low p i t l r h =
-    let (x, m, g) = any-elim (λ (x : Route). leadsFrom i t x && isIn l (x .links)) (p .paths) h in
-    (path-ranged p r x m) .links l (isIn-elim l (x .links) ((both-true (leadsFrom i t x) (isIn l (x .links)) g) .1))
+used-low p i t l r h = let o = (on-path p i t l) .0 h in (path-ranged p r (o .route) (o .has)) .links l (o .on)
 
 -- two initiators clash on a link exactly when both may use it
 module _ {p : Plan} {es : List Entry} {v i j l : ℕ} (c : Clashing p es v i j l) where
-  mine : May p es v i l
+  pub mine : May p es v i l
   mine = record { entry = c .mine; has = c .has-mine; own = c .of-mine; over = c .over-mine; target = c .to-mine; aims = c .aims-mine; on = c .on-mine }
 
-  yours : May p es v j l
+  pub yours : May p es v j l
   yours = record { entry = c .yours; has = c .has-yours; own = c .of-yours; over = c .over-yours; target = c .to-yours; aims = c .aims-yours; on = c .on-yours }
 
-both-use : {p : Plan} {es : List Entry} {v i j l : ℕ} → v < 64 → i < j → May p es v i l → May p es v j l → Clashing p es v i j l
+pub both-use : {p : Plan} {es : List Entry} {v i j l : ℕ} → v < 64 → i < j → May p es v i l → May p es v j l → Clashing p es v i j l
 both-use h o x y = record {
   slot = h;
   order = o;
@@ -92,12 +90,20 @@ clash-test p es v i j l h o = (
   λ c. true-both ((may-use p es v i l) .1 (mine c)) ((may-use p es v j l) .1 (yours c)),
 )
 
+-- the least clash in a slot
+pub record LeastIn (p : Plan) (es : List Entry) (v i j l : ℕ) : Type 0 where
+  pub here : Clashing p es v i j l
+  pub least : (a b m : ℕ) → Clashing p es v a b m → pair (pair i j) l ≤ pair (pair a b) m
+
 -- a clash by its slot, its initiators and its link, in their order
 abbrev Place : Type 0
 Place = ℕ × (ℕ × (ℕ × (ℕ × Unit {0})))
 
+abbrev codeIn : ℕ × (ℕ × (ℕ × Unit {0})) → ℕ
+codeIn x = x .0 * 4_096 + (x .1 .0 * 64 + (x .1 .1 .0 * 1 + 0))
+
 abbrev code : Place → ℕ
-code x = x .0 * 262_144 + (x .1 .0 * 4_096 + (x .1 .1 .0 * 64 + (x .1 .1 .1 .0 * 1 + 0)))
+code x = x .0 * 262_144 + codeIn (x .1)
 
 abbrev verdict : Place → Verdict
 verdict x = Clash (x .0) (x .1 .0) (x .1 .1 .0) (x .1 .1 .1 .0)
@@ -119,16 +125,26 @@ module _ (p : Plan) (es : List Entry) (r : Each p outOfRange false) (below : (e 
       let b = below (c .yours) (c .has-yours) in
       record { slot = c .slot; smaller = omega (arith, a .initiator, c .of-mine); greater = omega (arith, b .initiator, c .of-yours); link = used-low p i (c .to-mine) l r (c .on-mine) }
 
-  clash-finds : Finds code verdict (ClashesAt p es) (clash p es)
-  unfolding clash clashIn clashOf clashWith clashOn
-  clash-finds =
-      finds-within 262_144 _ _ _ (clashIn p es) (λ v k c. let b = clash-low c in omega arith) λ v h.
+  in-finds : (v : ℕ) → v < 64 → Finds codeIn (λ k. verdict (v, k)) (λ k. ClashesAt p es (v, k)) (clashIn p es v)
+  unfolding clashIn clashOf clashWith clashOn
+  in-finds v h =
       finds-within 4_096 _ _ _ (clashOf p es v) (λ i k c. let b = clash-low c in omega arith) λ i _.
       finds-behind _ _ _ (isAtWork es v i) (λ k c. at-work p es v i (k .1 .0) (mine c)) λ _.
       finds-within 64 _ _ _ (clashWith p es v i) (λ j k c. let b = clash-low c in omega arith) λ j _.
       finds-behind _ _ _ (ltb i j && isAtWork es v j) (λ k c. true-both (lt-ltb i j (c .order)) (at-work p es v j (k .0) (yours c))) λ t.
       finds-within 1 _ _ _ (clashOn p es v i j) (λ l k c. let b = clash-low c in omega arith) λ l _.
       finds-when _ _ _ (clash-test p es v i j l h (ltb-true i j ((both-true (ltb i j) (isAtWork es v j) t) .0)))
+
+  clash-finds : Finds code verdict (ClashesAt p es) (clash p es)
+  unfolding clash
+  clash-finds = finds-within 262_144 _ _ _ (clashIn p es) (λ v k c. let b = clash-low c in omega arith) in-finds
+
+  -- In one slot: the least clash is found, and nothing where there is none.
+  pub clash-in-is : (v i j l : ℕ) → v < 64 → LeastIn p es v i j l → clashIn p es v ≡ some (Clash v i j l)
+  clash-in-is v i j l h x = finds _ _ _ (in-finds v h) (Clash v i j l) .1 (record { key = (i, (j, (l, tt))); same = refl; here = x .here; under = λ k c. omega (arith, x .least (k .0) (k .1 .0) (k .1 .1 .0) c) })
+
+  pub clash-in-none : (v : ℕ) → v < 64 → ((i j l : ℕ) → Clashing p es v i j l → ⊥) → clashIn p es v ≡ none
+  clash-in-none v h n = finds-none _ _ _ (in-finds v h) .1 (λ k c. n (k .0) (k .1 .0) (k .1 .1 .0) c)
 
   -- What is found is the least clash; nothing is found exactly when there is none.
   pub clash-says : (o : Verdict) → (clash p es ≡ some o) ↔ ((v : ℕ) × (i : ℕ) × (j : ℕ) × (l : ℕ) × (o ≡ Clash v i j l) × LeastClash p es v i j l)

@@ -1,5 +1,5 @@
 -- The entries of a plan whose items pass rows 5, 6 and 11: their ranges, their initiators, and how many there are at most.
-use mathlib.Core.Path.{_≡_, refl}
+use mathlib.Core.Path.{_≡_, refl, sym}
 use mathlib.Core.List.{List, [], _∷_, List·Memᴰ, List·Memᴰ·head}
 use mathlib.Core.Bool.{true, false}
 use Prim.Native.Nat.{ℕ, _≤_}
@@ -10,6 +10,7 @@ use borrow.Author.Tests.{eq-eqb, not-false}
 use Rattle.lists.specs.Search.{repeats}
 use Rattle.lists.specs.laws.Bools.{both-true, true-both}
 use Rattle.lists.specs.laws.Search.{any-elim, any-intro, all-elim}
+use Rattle.lists.specs.laws.Append.{repeats-one}
 use Rattle.lists.specs.laws.Pigeonhole.{pairs-most}
 use Rattle.plan_rules.specs.Plan.{Entry, Plan, Item, entry}
 use Rattle.plan_rules.specs.Meaning.{isInitiator, initiators, hasPath, leadsFrom}
@@ -27,6 +28,14 @@ unfolding hasPath isInitiator leadsFrom
 path-initiator p i t h =
     let (x, m, e) = any-elim (leadsFrom i t) (p .paths) h in
     any-intro _ (p .paths) x m ((both-true (eqb i (x .initiator)) (eqb t (x .target)) e) .0)
+
+-- no two entries have the same initiator and slot (row 7)
+pub entry-once : (es : List Entry) → repeats sameEntryPlace es ≡ false → (e f : Entry) → List·Memᴰ e es → List·Memᴰ f es → e .initiator ≡ f .initiator → e .slot ≡ f .slot → e ≡ f
+unfolding sameEntryPlace
+entry-once es h e f m n a b = repeats-one sameEntryPlace es e f h m n (same e f a b) (same f e (sym a) (sym b))
+  where
+    same : (c d : Entry) → c .initiator ≡ d .initiator → c .slot ≡ d .slot → sameEntryPlace c d ≡ true
+    same c d i v = true-both (eq-eqb (c .initiator) (d .initiator) i) (eq-eqb (c .slot) (d .slot) v)
 
 module _ (p : Plan) (lengths : (x : Item) → List·Memᴰ x (items p) → Sized x) (ranges : Each p outOfRange false) (reached : Each p (noPath p) false) where
   pub entry-ranges : (e : Entry) → List·Memᴰ e (p .entries) → EntryRange e

@@ -6,14 +6,12 @@ use mathlib.Core.Bool.{Bool, true, false}
 use Prim.Native.Nat.{ℕ, _<_}
 use native.Mathlib.Omega.{arith}
 use native.Mathlib.Decide.{decLt}
-use borrow.Author.Tests.{eq-eqb}
 use Rattle.lists.specs.laws.Bools.{true-both}
-use Rattle.lists.specs.laws.Append.{repeats-one}
 use Rattle.plan_rules.specs.Plan.{Entry, Plan}
 use Rattle.plan_rules.specs.Meaning.{mayUse, runsInto}
-use Rattle.plan_rules.specs.Good.{Good, sameEntryPlace}
+use Rattle.plan_rules.specs.Good.{Good}
 use Rattle.plan_rules.specs.laws.Ranges.{EntryRange}
-use Rattle.plan_rules.specs.laws.Entries.{entry-ranges, entry-initiator}
+use Rattle.plan_rules.specs.laws.Entries.{entry-once, entry-ranges, entry-initiator}
 use Rattle.plan_rules.specs.laws.Overruns.{runs-into, overrun-none}
 use Rattle.plan_rules.specs.laws.Clashes.{clash-test, clash-none}
 use Rattle.plan_rules.specs.laws.Sound.{Sound}
@@ -23,7 +21,6 @@ module _ (p : Plan) (good : Good p) where
   good-entry = entry-ranges p (good .lengths) (good .ranges) (good .reached)
 
   pub good-sound : Sound p
-  unfolding sameEntryPlace
   good-sound = record {
     initiator = entry-initiator p (good .lengths) (good .ranges) (good .reached);
     below = λ e m. (good-entry e m) .initiator;
@@ -31,18 +28,12 @@ module _ (p : Plan) (good : Good p) where
     some-span = λ e m. (good-entry e m) .some-span;
     spans = λ e m. (good-entry e m) .span;
     targets = λ e m. (good-entry e m) .targets;
-    unique = one;
+    unique = entry-once (p .entries) (good .entries);
     no-overrun = λ e f m n. apart-from e f m n (runsInto e f) refl;
     no-clash = λ s i j l hs d mi mj. apart s i j l hs d mi mj (decLt i j);
     eight = good .eight;
   }
     where
-      same : (e f : Entry) → e .initiator ≡ f .initiator → e .slot ≡ f .slot → sameEntryPlace e f ≡ true
-      same e f a b = true-both (eq-eqb (e .initiator) (f .initiator) a) (eq-eqb (e .slot) (f .slot) b)
-
-      one : (e f : Entry) → List·Memᴰ e (p .entries) → List·Memᴰ f (p .entries) → e .initiator ≡ f .initiator → e .slot ≡ f .slot → e ≡ f
-      one e f m n a b = repeats-one sameEntryPlace (p .entries) e f (good .entries) m n (same e f a b) (same f e (sym a) (sym b))
-
       -- an entry that runs into another is an overrun
       apart-from : (e f : Entry) → List·Memᴰ e (p .entries) → List·Memᴰ f (p .entries) → (b : Bool) → runsInto e f ≡ b → runsInto e f ≡ false
       apart-from e f m n false h = h

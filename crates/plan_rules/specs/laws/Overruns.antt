@@ -1,13 +1,14 @@
 -- Verdict 13: what `overrun` finds is the entry in words, with the least initiator and then the least slot.
-use mathlib.Core.Path.{_≡_, sym, ap, _∙_}
+use mathlib.Core.Path.{_≡_, refl, sym, ap, _∙_}
 use mathlib.Core.Logic.{_≢_, _↔_}
 use mathlib.Core.List.{List, List·Memᴰ}
 use mathlib.Core.Option.{none, some}
 use mathlib.Core.Bool.{true, not, _&&_}
-use Prim.Native.Nat.{ℕ, _+_, _*_, _<_}
+use Prim.Native.Nat.{ℕ, _+_, _-_, _*_, _%_, _≤_, _<_}
 use native.Mathlib.Omega.{arith}
+use native.Mathlib.Decide.{ℕ-discrete, decLt}
 use lib.Dec.{eqb}
-use borrow.Author.Tests.{eqb-true, eqb-false, eq-eqb, ne-eqb, not-true}
+use borrow.Author.Tests.{eqb-true, eqb-false, eq-eqb, ne-eqb, not-true, ltb-true, lt-ltb}
 use Rattle.lists.specs.Search.{any}
 use Rattle.lists.specs.laws.Bools.{both-true, true-both}
 use Rattle.lists.specs.laws.Search.{any-elim, any-intro}
@@ -92,3 +93,25 @@ module _ (es : List Entry) (below : (e : Entry) → List·Memᴰ e es → EntryR
 
   pub overrun-none : (overrun es ≡ none) ↔ ((i v : ℕ) → Overrunning es i v → ⊥)
   overrun-none = let n = finds-none _ _ _ overrun-finds in (λ e i v. n .0 e (i, (v, tt)), λ h. n .1 (λ k. h (k .0) (k .1 .0)))
+
+  -- Where there is none, the entries of one initiator that cover one slot stand in one slot.
+  pub cover-once : overrun es ≡ none → (v : ℕ) (e f : Entry) → List·Memᴰ e es → List·Memᴰ f es → e .initiator ≡ f .initiator → covers e v ≡ true → covers f v ≡ true → e .slot ≡ f .slot
+  unfolding covers
+  cover-once h v e f m n i c d = go (ℕ-discrete (e .slot) (f .slot)) (decLt (from f) (from e))
+    where
+      from : Entry → ℕ
+      from g = (v + 64 - g .slot) % 64
+
+      -- of two entries that cover a slot the one further back covers the slot of the other
+      runs : (a b : Entry) → List·Memᴰ a es → List·Memᴰ b es → a .initiator ≡ b .initiator → a .slot ≢ b .slot → covers a v ≡ true → from b ≤ from a → ⊥
+      runs a b k l j apart o w =
+          let low = below a k in
+          let high = below b l in
+          let s = ltb-true (from a) (a .span) o in
+          overrun-none .0 h (a .initiator) (a .slot)
+          (record { mine = a; other = b; has-mine = k; has-other = l; of-mine = refl; of-other = sym j; at-mine = refl; apart = apart; over = lt-ltb ((b .slot + 64 - a .slot) % 64) (a .span) (omega (arith, low .slot, high .slot)) })
+
+      go : Dec (e .slot ≡ f .slot) → Dec (from f < from e) → e .slot ≡ f .slot
+      go (yes s) w = s
+      go (no s) (yes w) = absurd (runs e f m n i s c (omega arith))
+      go (no s) (no w) = absurd (runs f e n m (sym i) (λ z. s (sym z)) d (omega arith))

@@ -1,0 +1,3 @@
+pub mod Searches
+pub mod Found
+pub mod laws

@@ -1,0 +1,202 @@
+// Verdict 14: two initiators clash. In each slot the links that each initiator may use are worked out as a set, and the sets compared.
+ghost use mathlib.Core.Path.{_≡_};
+ghost use mathlib.Core.Option.{none};
+ghost use mathlib.Core.Bool.{_||_};
+ghost use Prim.Native.Nat.{ℕ, _+_, _-_, _<_, min};
+ghost use lib.ListN.{length};
+ghost use Rattle.lists.specs.Numbers.{anyBelow, firstFrom};
+ghost use Rattle.sets.specs.Set.{member, listed};
+ghost use Rattle.plan_rules.specs.Plan.{Plan};
+ghost use Rattle.plan_rules.specs.Judge.{overrun, clashIn, clash};
+ghost use Rattle.plan_rules.specs.laws.Fair.{Fair};
+ghost use Rattle.plan_memory.specs.Memory.{rowsOf, pathsOf, spansOf, aimsOf, numbersWith};
+ghost use Rattle.searches.specs.Found.{searchOf};
+ghost use Rattle.searches.specs.Searches.{coverPlace, linksAt, leadsOver, laneOf, lanesOf, meets, leastCommon, Searched};
+use crate::overrun::Search;
+use plan_rules::Verdict;
+
+// Where the entry of the row stands that covers the slot: 64 × row + its slot; 512 for none.
+fn covering(spans: &[u8; 512], row: usize, slot: usize) -> usize
+    requires { ⌜ (row < 8) × (slot < 64) ⌝ }
+    ensures { λ r. ⌜ r ≡ coverPlace (now (spans .entry)) row slot ⌝ }
+{
+    let mut back: usize = 0;
+    while back < 16 {
+        let at = row * 64 + (slot + 64 - back) % 64;
+        if (back as u8) < spans[at] {
+            return at;
+        }
+        back += 1;
+    }
+    512
+}
+
+// The number, and 8 where it is more.
+fn up_to_8(n: u8) -> usize
+    ensures { λ r. ⌜ r ≡ min 8 n ⌝ }
+{
+    if n < 8 { n as usize } else { 8 }
+}
+
+// The links of path number k.
+fn path_links(paths: &[u8], k: usize) -> u64
+    requires { ⌜ (k < 128) × (length (now paths) ≡ 1408) ⌝ }
+    ensures { λ r. ⌜ ((l : ℕ) → member l r ≡ listed (linksAt (now (paths .entry)) k) l) ⌝ }
+{
+    let start = k * 11 + 3;
+    let end = start + up_to_8(paths[k * 11 + 2]);
+    sets::set_of(&paths[start..end])
+}
+
+// The links, with those of path number k if it leads from the initiator to one of the targets.
+fn with_path(paths: &[u8; 1408], initiator: u8, targets: u64, links: u64, k: usize) -> u64
+    requires { ⌜ k < 128 ⌝ }
+    ensures { λ r. ⌜ ((l : ℕ) → member l r ≡ (member l links || leadsOver (now (paths .entry)) initiator targets l k)) ⌝ }
+{
+    if paths[k * 11] != initiator {
+        return links;
+    }
+    if sets::has(targets, paths[k * 11 + 1]) {
+        return sets::union(links, path_links(paths, k));
+    }
+    links
+}
+
+// The links that transactions of the initiator with one of the targets use.
+fn links_to(paths: &[u8; 1408], count: u32, initiator: u8, targets: u64) -> u64
+    ensures { λ r. ⌜ ((l : ℕ) → member l r ≡ anyBelow (min 128 count) (leadsOver (now (paths .entry)) initiator targets l)) ⌝ }
+{
+    let mut links: u64 = 0;
+    let mut k: usize = 0;
+    while k < 128 {
+        if k as u32 >= count {
+            return links;
+        }
+        links = with_path(paths, initiator, targets, links, k);
+        k += 1;
+    }
+    links
+}
+
+// The links that the initiator of the row may use in the slot; none where the row has no initiator.
+fn links_in(
+    rows: &[u8; 8],
+    paths: &[u8; 1408],
+    spans: &[u8; 512],
+    aims: &[u64; 512],
+    numbers: &[u32; 6],
+    row: usize,
+    slot: usize,
+) -> u64
+    requires { ⌜ (row < 8) × (slot < 64) ⌝ }
+    ensures { λ r. ⌜ ((p : Plan) → Searched p (now (rows .entry)) (now (paths .entry)) (now (spans .entry)) (now (aims .entry)) (now (numbers .entry)) →
+        r ≡ laneOf p slot row) ⌝ }
+{
+    let at = covering(spans, row, slot);
+    if at < 512 {
+        return links_to(paths, numbers[3], rows[row], aims[at]);
+    }
+    0
+}
+
+// The same of each row, at its place.
+fn lanes_in(
+    rows: &[u8; 8],
+    paths: &[u8; 1408],
+    spans: &[u8; 512],
+    aims: &[u64; 512],
+    numbers: &[u32; 6],
+    slot: usize,
+) -> [u64; 8]
+    requires { ⌜ slot < 64 ⌝ }
+    ensures { λ r. ⌜ ((p : Plan) → Searched p (now (rows .entry)) (now (paths .entry)) (now (spans .entry)) (now (aims .entry)) (now (numbers .entry)) →
+        r ≡ lanesOf p slot) ⌝ }
+{
+    let mut lanes = [0u64; 8];
+    let mut row: usize = 0;
+    while row < 8 {
+        lanes[row] = links_in(rows, paths, spans, aims, numbers, row, slot);
+        row += 1;
+    }
+    lanes
+}
+
+// The first row after row i whose set has a link of row i's; 8 for none.
+fn meets_after(lanes: &[u64; 8], i: usize) -> usize
+    requires { ⌜ i < 8 ⌝ }
+    ensures { λ r. ⌜ r ≡ firstFrom (7 - i) (i + 1) (meets (now (lanes .entry)) i) ⌝ }
+{
+    let mut j: usize = i + 1;
+    while j < 8 {
+        if !sets::disjoint(lanes[i], lanes[j]) {
+            return j;
+        }
+        j += 1;
+    }
+    8
+}
+
+// The least link in both sets; 64 for none.
+fn least_common(a: u64, b: u64) -> u8
+    ensures { λ r. ⌜ r ≡ leastCommon a b ⌝ }
+{
+    sets::least(sets::both(a, b)) as u8
+}
+
+// The least clash in the slot. (Initiators rise with their rows.)
+fn clash_in(
+    rows: &[u8; 8],
+    paths: &[u8; 1408],
+    spans: &[u8; 512],
+    aims: &[u64; 512],
+    numbers: &[u32; 6],
+    slot: usize,
+) -> Search
+    requires { ⌜ slot < 64 ⌝ }
+    ensures { λ r. ⌜ ((p : Plan) → Searched p (now (rows .entry)) (now (paths .entry)) (now (spans .entry)) (now (aims .entry)) (now (numbers .entry)) →
+        r ≡ searchOf (clashIn p (p .entries) slot)) ⌝ }
+{
+    let lanes = lanes_in(rows, paths, spans, aims, numbers, slot);
+    let mut i: usize = 0;
+    while i < 8 {
+        let j = meets_after(&lanes, i);
+        if j < 8 {
+            let link = least_common(lanes[i], lanes[j]);
+            let smaller = rows[i];
+            let greater = rows[j];
+            return Search::Found {
+                verdict: Verdict::Clash {
+                    slot: slot as u8,
+                    smaller,
+                    greater,
+                    link,
+                },
+            };
+        }
+        i += 1;
+    }
+    Search::Nothing
+}
+
+// "least slot, then least smaller initiator, least greater initiator, least link". Verdict 13 does not hold.
+pub fn find_clash(
+    rows: &[u8; 8],
+    paths: &[u8; 1408],
+    spans: &[u8; 512],
+    aims: &[u64; 512],
+    numbers: &[u32; 6],
+) -> Search
+    ensures { λ r. ⌜ ((size : ℕ) (p : Plan) → Fair p → overrun (p .entries) ≡ none → now (rows .entry) ≡ rowsOf p → now (paths .entry) ≡ pathsOf p →
+        now (spans .entry) ≡ spansOf p → now (aims .entry) ≡ aimsOf p → now (numbers .entry) ≡ numbersWith size p →
+        r ≡ searchOf (clash p (p .entries))) ⌝ }
+{
+    let mut slot: usize = 0;
+    while slot < 64 {
+        let found = clash_in(rows, paths, spans, aims, numbers, slot);
+        if let Search::Found { verdict } = found {
+            return Search::Found { verdict };
+        }
+        slot += 1;
+    }
+    Search::Nothing
+}
