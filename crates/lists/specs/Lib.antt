@@ -4,5 +4,6 @@ pub mod Rows
 pub mod Place
 pub mod Order
 pub mod Cells
+pub mod Insert
 pub mod Stores
 pub mod laws

@@ -22,3 +22,7 @@ pub mod Scan
 pub mod Flat
 pub mod Members
 pub mod Sweep
+pub mod Padded
+pub mod Chunks
+pub mod Insert
+pub mod Moved

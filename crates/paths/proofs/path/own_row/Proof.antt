@@ -1,0 +1,61 @@
+-- `plan::path::own_row` meets its contract: the row that is found, or the row that is made.
+use mathlib.Core.Path.{_≡_, sym, _∙_}
+use mathlib.Core.Logic.{_≢_}
+use native.Mathlib.Omega.{arith}
+use Rattle.plan_rules.specs.Plan.{nth}
+use Rattle.paths.specs.Keep.{rowAmong}
+use Rattle.paths.specs.laws.OwnRow.{old-row, old-array, made-row, made-array, old-count, new-count}
+use borrow.Author.Needs.{needs}
+use Rattle.paths.proofs.path.own_row.Statement.{statement}
+use Rattle.paths.proofs.path.own_row.Tie as tie
+
+element-copy-out-count : tie.Need-element-copy-out-count
+element-copy-out-count c = search needs
+
+row-of-requires : tie.Need-row-of-requires
+row-of-requires c κs = search needs
+
+cast-if1 : tie.Need-cast-if1
+cast-if1 c = omega arith
+
+returns : tie.Need-returns
+returns c =
+    let a = c .before .before .before .before .args in
+    let e = c .before .row-of .ensures in
+    let d : rowAmong (a .rows .now) (nth (a .numbers .now) 2) (a .initiator) ≢ nth (a .numbers .now) 2 = λ f. c .if1 .taken (e ∙ f) in
+    (omega arith, sym (old-count _ _ _ d), λ f g. (e ∙ sym (old-row _ _ _ d), sym (old-array _ _ _ d _ _), sym (old-array _ _ _ d _ _)))
+
+add-numbers : tie.Need-add-numbers
+add-numbers c = search needs
+
+element-write-numbers : tie.Need-element-write-numbers
+element-write-numbers c = search needs
+
+insert-row-requires : tie.Need-insert-row-requires
+insert-row-requires c κs = search needs
+
+returns-2 : tie.Need-returns-2
+returns-2 c =
+    let n = c .before .before .before .before in
+    let a = n .before .before .before .args in
+    let q : n .row-of .result ≡ nth (a .numbers .now) 2 = c .before .before .before .if1 .left in
+    let e = sym (n .row-of .ensures) ∙ q in (
+      omega arith,
+      sym (new-count _ _ _ e),
+      λ f g.
+          let m = c .insert-row .ensures .1 f g in
+          (made-row _ _ _ e _ _ q (m .0), made-array _ _ _ e _ _ q (m .0) _ _ _ (m .1), made-array _ _ _ e _ _ q (m .0) _ _ _ (m .2)),
+    )
+
+pub own-row-spec : {M : Type 1} → statement M
+own-row-spec =
+    tie.close
+    (tie.spec
+    element-copy-out-count
+    row-of-requires
+    cast-if1
+    returns
+    add-numbers
+    element-write-numbers
+    insert-row-requires
+    returns-2)

@@ -1,0 +1,58 @@
+-- What keeping a path does to the memory: where its row and its bytes go, and what the arrays hold afterwards.
+use Prim.Native.Nat.{ℕ, _+_, _*_, min}
+use mathlib.Core.List.{List, [], _∷_}
+use mathlib.Core.Bool.{Bool, _&&_, _||_, cond}
+use lib.ListN.{set}
+use lib.Dec.{ltb, eqb}
+use Rattle.lists.specs.Numbers.{firstFrom}
+use Rattle.lists.specs.Insert.{putIn, pastLast}
+use Rattle.sets.specs.Set.{packed, added}
+use Rattle.plan_rules.specs.Plan.{nth, Route}
+use Rattle.plan_memory.specs.Memory.{pathRow}
+
+-- the row of initiator i among the first count rows (8 at most); that count where it has none
+abbrev pub rowAmong : List ℕ → ℕ → ℕ → ℕ
+rowAmong rows count i = firstFrom (min count 8) 0 (λ (k : ℕ). eqb i (nth rows k))
+
+-- where a row of i goes among the first count rows: behind the last with a smaller initiator
+abbrev pub rowPlace : List ℕ → ℕ → ℕ → ℕ
+rowPlace rows count i = pastLast count (λ (k : ℕ). ltb (nth rows k) i)
+
+-- i has no row yet
+abbrev pub isNew : List ℕ → ℕ → ℕ → Bool
+isNew rows count i = eqb (rowAmong rows count i) count
+
+-- once i has its row: the row, an array of the rows, in which a new row holds v, and the numbers
+unfoldable pub ownRow : List ℕ → ℕ → ℕ → ℕ
+ownRow rows count i = cond (isNew rows count i) (rowPlace rows count i) (rowAmong rows count i)
+
+unfoldable pub withRow : List ℕ → ℕ → ℕ → ℕ → List ℕ → List ℕ
+withRow rows count i v xs = cond (isNew rows count i) (putIn (rowPlace rows count i) count (v ∷ []) xs) xs
+
+unfoldable pub withCount : List ℕ → List ℕ → ℕ → List ℕ
+withCount rows numbers i = cond (isNew rows (nth numbers 2) i) (set numbers 2 (nth numbers 2 + 1)) numbers
+
+-- the path, from its numbers
+abbrev pub route : ℕ → ℕ → List ℕ → Route
+route i t ls = record { initiator = i; target = t; links = ls }
+
+-- a path from i to t stands before one from j to u
+unfoldable pub precedes : ℕ → ℕ → ℕ → ℕ → Bool
+precedes i t j u = ltb i j || eqb i j && ltb t u
+
+-- the place of a path from i to t among the first count paths: before the first that it precedes
+abbrev pub pathPlace : List ℕ → ℕ → ℕ → ℕ → ℕ
+pathPlace paths count i t = firstFrom count 0 (λ (k : ℕ). precedes i t (nth paths (k * 11)) (nth paths (k * 11 + 1)))
+
+-- with the path: its target in the reach of its row, its eleven bytes at its place, one path more
+unfoldable pub keptReach : List ℕ → List ℕ → ℕ → Route → List ℕ
+keptReach rows reach count x =
+    let r = ownRow rows count (x .initiator) in
+    let own = withRow rows count (x .initiator) 0 reach in
+    set own r (packed (added (x .target) (nth own r)))
+
+unfoldable pub keptPaths : List ℕ → ℕ → Route → List ℕ
+keptPaths paths count x = putIn (pathPlace paths count (x .initiator) (x .target) * 11) (count * 11) (pathRow x) paths
+
+unfoldable pub keptNumbers : List ℕ → List ℕ → ℕ → List ℕ
+keptNumbers rows numbers i = set (withCount rows numbers i) 3 (nth numbers 3 + 1)

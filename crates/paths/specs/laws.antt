@@ -1,0 +1,11 @@
+pub mod Walks
+pub mod PathRows
+pub mod PathFaults
+pub mod Passed
+pub mod GrownPath
+pub mod OwnRow
+pub mod PathPlace
+pub mod KeptRows
+pub mod KeptReach
+pub mod KeptPaths
+pub mod KeptPlan

@@ -1,0 +1,86 @@
+-- The bytes of the paths when a path is kept: eleven bytes more, at its place in the order of writing out.
+use mathlib.Core.Path.{_≡_, sym, ap, _∙_}
+use mathlib.Core.List.{_∷_, flatMap}
+use Prim.Native.Nat.{ℕ, _+_, _*_, _≤_, _<_}
+use native.Mathlib.Nat.{add-zero}
+use native.Mathlib.Omega.{arith}
+use lib.ListN.{length, getD, take, drop}
+use borrow.Author.Tests.{eq-eqb}
+use Rattle.lists.specs.Cells.{padded}
+use Rattle.lists.specs.Order.{Shuffled}
+use Rattle.lists.specs.laws.Bools.{true-both, not-both}
+use Rattle.lists.specs.laws.Search.{any-false}
+use Rattle.lists.specs.laws.Append.{flat-append}
+use Rattle.lists.specs.laws.Shuffle.{each-shuffled, shuffled-length}
+use Rattle.lists.specs.laws.Order.{inOrders-shuffled}
+use Rattle.lists.specs.laws.Padded.{padded-at}
+use Rattle.lists.specs.laws.Moved.{padded-putIn}
+use Rattle.lists.specs.laws.Chunks.{Wide, length-chunks, take-chunks, drop-chunks, chunk-at}
+use Rattle.lists.specs.laws.Insert.{Before, Placed, placed, inserted-orders, first-is}
+use Rattle.plan_rules.specs.Plan.{nth, Route, Plan, path, grow}
+use Rattle.plan_rules.specs.Meaning.{leadsFrom, hasPath}
+use Rattle.plan_rules.specs.Judge.{givenBefore}
+use Rattle.plan_rules.specs.laws.Fair.{Fair}
+use Rattle.plan_rules.specs.laws.Chain.{Passes}
+use Rattle.plan_rules.specs.laws.Lengths.{path-length}
+use Rattle.plan_rules.specs.laws.Items.{path-in}
+use Rattle.plan_rules.specs.laws.InRange.{path-ranged}
+use Rattle.plan_rules.specs.laws.Initiators.{most-grows}
+use Rattle.plan_rules.specs.laws.Ranges.{route-range}
+use Rattle.plan_memory.specs.Memory.{pathRow, pathsInOrder, pathsOf}
+use Rattle.paths.specs.Keep.{pathPlace, keptPaths}
+use Rattle.paths.specs.laws.PathPlace.{before-precedes, behind-precedes, row-length}
+
+-- the paths of a fair plan in order: as many, each with eleven bytes
+module _ (p : Plan) (f : Fair p) where
+  pub in-order : Shuffled _≡_ (p .paths) (pathsInOrder p)
+  unfolding pathsInOrder
+  in-order = inOrders-shuffled _ _ (p .paths) (λ x m. let h = path-ranged p (f .ranges) x m in (h .initiator, h .target))
+
+  pub wide : Wide pathRow 11 (pathsInOrder p)
+  wide = each-shuffled (λ y. length (pathRow y) ≡ 11) (λ y z e h. rw e at h) in-order
+      (λ y m. row-length y ((path-length y (f .lengths (path y) (path-in p y m))) .1))
+
+  pub as-many : length (pathsInOrder p) ≡ length (p .paths)
+  as-many = sym (shuffled-length in-order)
+
+  -- the bytes of the path at place k
+  pub byte-at : (k j : ℕ) (x : Route) → k < length (p .paths) → j < 11 → nth (pathsOf p) (k * 11 + j) ≡ nth (pathRow (getD (pathsInOrder p) k x)) j
+  unfolding pathsOf
+  byte-at k j x h l = padded-at 1408 0 (flatMap pathRow (pathsInOrder p)) (k * 11 + j) ∙ chunk-at pathRow 11 k j (pathsInOrder p) x 0 wide (omega (arith, as-many)) l
+
+  pub initiator-at : (k : ℕ) (x : Route) → k < length (p .paths) → nth (pathsOf p) (k * 11) ≡ getD (pathsInOrder p) k x .initiator
+  unfolding pathRow
+  initiator-at k x h = ap (nth (pathsOf p)) (sym (add-zero (k * 11))) ∙ byte-at k 0 x h (omega arith)
+
+  pub target-at : (k : ℕ) (x : Route) → k < length (p .paths) → nth (pathsOf p) (k * 11 + 1) ≡ getD (pathsInOrder p) k x .target
+  unfolding pathRow
+  target-at k x h = byte-at k 1 x h (omega arith)
+
+module _ (p : Plan) (f : Fair p) (x : Route) (g : Passes p (path x)) where
+  pub inserted-path : Placed (λ y. Before (y .initiator) (y .target) (x .initiator) (x .target)) (λ y. Before (x .initiator) (x .target) (y .initiator) (y .target)) x
+      (pathsInOrder p) x (pathsInOrder (grow p (path x)))
+  unfolding pathsInOrder grow givenBefore hasPath leadsFrom
+  inserted-path =
+      let r = route-range x (g .range) in
+      placed x (inserted-orders (λ (y : Route). y .initiator) (λ (y : Route). y .target) (p .paths) x (r .initiator) (r .target)
+      (λ y m a b. not-both (true-both (eq-eqb (x .initiator) (y .initiator) (sym a)) (eq-eqb (x .target) (y .target) (sym b))) (any-false (leadsFrom (x .initiator) (x .target)) (p .paths) y (g .new) m)))
+
+  path-place : pathPlace (pathsOf p) (length (p .paths)) (x .initiator) (x .target) ≡ inserted-path .place
+  path-place =
+      let r = inserted-path in
+      let n = as-many p f in
+      first-is (length (p .paths)) (r .place) _ (omega (arith, r .within))
+      (λ j h. let b : j < length (p .paths) = omega (arith, r .within) in rw (initiator-at p f j x b, target-at p f j x b) (behind-precedes _ _ _ _ (r .less j h)))
+      (λ b. rw (initiator-at p f (r .place) x b, target-at p f (r .place) x b) (before-precedes _ _ _ _ (r .more (r .place) (omega arith) (omega arith))))
+
+  pub paths-kept : length (x .links) ≤ 8 → keptPaths (pathsOf p) (length (p .paths)) x ≡ pathsOf (grow p (path x))
+  unfolding keptPaths pathsOf flatMap
+  paths-kept l =
+      let r = inserted-path in
+      let w = wide p f in
+      let B = flatMap pathRow (pathsInOrder p) in
+      let n : length B ≡ length (p .paths) * 11 = omega (arith, length-chunks pathRow 11 (pathsInOrder p) w, as-many p f) in
+      rw (path-place, ← n)
+      (sym (padded-putIn 1408 (r .place * 11) 0 (pathRow x) B (omega (arith, r .within, as-many p f)) (omega (arith, row-length x l, most-grows p x (g .few))))
+      ∙ ap (padded 1408 0) ((rw (take-chunks pathRow 11 (r .place) (pathsInOrder p) w, drop-chunks pathRow 11 (r .place) (pathsInOrder p) w)) ∙ sym (flat-append pathRow (take (r .place) (pathsInOrder p)) (x ∷ drop (r .place) (pathsInOrder p))) ∙ ap (flatMap pathRow) (sym (r .new))))
