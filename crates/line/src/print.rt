@@ -8,7 +8,7 @@ ghost use Rattle.plan_rules.specs.Print.{decimal, spaced, numbers, line};
 use plan_rules::Verdict;
 
 // Puts the bytes of s at a place, and answers the next one.
-fn put_bytes(out: &mut [u8], at: usize, s: &[u8]) -> usize
+pub fn put_bytes(out: &mut [u8], at: usize, s: &[u8]) -> usize
     requires { ⌜ at + length (now s) ≤ length (now out) ⌝ }
     ensures { λ r. ⌜ Put (now (out .entry)) at (now (s .entry)) (now (out .exit)) r ⌝ }
 {

@@ -6,4 +6,5 @@ pub mod Order
 pub mod Cells
 pub mod Insert
 pub mod Stores
+pub mod Puts
 pub mod laws

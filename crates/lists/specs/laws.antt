@@ -19,10 +19,14 @@ pub mod OneOrder
 pub mod At
 pub mod More
 pub mod Scan
-pub mod Flat
+pub mod Even
 pub mod Members
 pub mod Sweep
 pub mod Padded
 pub mod Chunks
 pub mod Insert
 pub mod Moved
+pub mod Puts
+pub mod Flat
+pub mod Kept
+pub mod Filled

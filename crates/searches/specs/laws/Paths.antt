@@ -25,7 +25,7 @@ use Rattle.lists.specs.laws.Cells.{length-padded}
 use Rattle.lists.specs.laws.Shuffle.{each-shuffled, shuffled-length, shuffled-sym}
 use Rattle.lists.specs.laws.Order.{inOrders-shuffled}
 use Rattle.lists.specs.laws.Members.{at-member, member-at, at-some}
-use Rattle.lists.specs.laws.Flat.{flat-row}
+use Rattle.lists.specs.laws.Even.{flat-row}
 use Rattle.sets.specs.Set.{member, listed}
 use Rattle.plan_rules.specs.Plan.{Route, Plan, path}
 use Rattle.plan_rules.specs.Meaning.{uses}

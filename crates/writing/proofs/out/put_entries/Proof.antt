@@ -1,0 +1,50 @@
+-- `plan::out::put_entries` meets its contract. The loop's invariant: the fields of the first n cells are put. Assumes nothing.
+use Prim.Native.Nat.{_-_}
+use Rattle.writing.specs.Out.{entryBytes}
+use borrow.Author.Needs.{needs}
+use Rattle.lists.specs.laws.Puts.{Turns, turns-begin, turns-next, turns-done}
+use Rattle.writing.proofs.out.put_entries.Statement.{statement}
+use Rattle.writing.proofs.out.put_entries.Tie as tie
+
+abbrev Inv-loop : tie.InvT-loop
+Inv-loop out₀ at rows spans aims k₀ n₀ out k n = Turns (entryBytes rows spans aims) 512 out₀ at out k n
+
+abbrev μ-loop : tie.MeasureT-loop
+μ-loop out₀ at rows spans aims k₀ n₀ out k n = 512 - n
+
+loop-holds : tie.Need-loop-holds Inv-loop μ-loop
+loop-holds c = let a = c .before .args in turns-begin (entryBytes (a .rows .now) (a .spans .now) (a .aims .now)) 512 (a .out .now) (a .at)
+
+put-entry-requires : tie.Need-put-entry-requires Inv-loop μ-loop
+put-entry-requires c κs = search needs
+
+add-n : tie.Need-add-n Inv-loop μ-loop
+add-n c = search needs
+
+loop-less : tie.Need-loop-less Inv-loop μ-loop
+loop-less c = search needs
+
+loop-again : tie.Need-loop-again Inv-loop μ-loop
+loop-again c =
+    let d = c .before .before in
+    turns-next (d .before .before .before .loop .inv) (search needs) (d .put-entry .kept .0) (d .put-entry .ensures)
+
+same-length : tie.Need-same-length Inv-loop μ-loop
+same-length c = c .before .loop .inv .same
+
+returns : tie.Need-returns Inv-loop μ-loop
+returns c = turns-done (c .before .loop .inv) (c .loop-test .left)
+
+pub put-entries-spec : {M : Type 1} → statement M
+put-entries-spec =
+    tie.close
+    (tie.spec
+    Inv-loop
+    μ-loop
+    loop-holds
+    put-entry-requires
+    add-n
+    loop-less
+    loop-again
+    same-length
+    returns)

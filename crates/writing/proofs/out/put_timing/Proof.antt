@@ -1,0 +1,28 @@
+-- `plan::out::put_timing` meets its contract. Assumes nothing.
+use Rattle.writing.specs.laws.Parts.{timing-puts}
+use borrow.Author.Needs.{needs}
+use Rattle.writing.proofs.out.put_timing.Statement.{statement}
+use Rattle.writing.proofs.out.put_timing.Tie as tie
+
+put-head-requires : tie.Need-put-head-requires
+put-head-requires c κs = search needs
+
+put-four-requires : tie.Need-put-four-requires
+put-four-requires c κs = search needs
+
+put-four-requires-2 : tie.Need-put-four-requires-2
+put-four-requires-2 c κs = search needs
+
+same-length : tie.Need-same-length
+same-length c = search needs
+
+returns : tie.Need-returns
+returns c =
+    let h = c .before .before .before .before .before .before .before .before .before .before in
+    let a = h .before .before .before .args in
+    timing-puts (a .least) (a .greatest) (h .put-head .ensures) (c .before .before .before .before .before .before .put-four .ensures) (c .before .before .put-four2 .ensures)
+
+pub put-timing-spec : {M : Type 1} → statement M
+put-timing-spec =
+    tie.close
+    (tie.spec put-head-requires put-four-requires put-four-requires-2 same-length returns)

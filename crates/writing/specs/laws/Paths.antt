@@ -1,0 +1,76 @@
+-- The paths of a plan in canonical order: what its rows give, one by one, is their fields.
+use mathlib.Core.Path.{_≡_, refl, sym, ap, ap₂, _∙_}
+use mathlib.Core.List.{List, [], _∷_, _++_, map, flatMap, append-assoc, List·Memᴰ, List·Memᴰ·head, List·Memᴰ·tail}
+use Prim.Native.Nat.{ℕ, zero, suc, _+_, _-_, _*_, _≤_}
+use native.Mathlib.Omega.{arith}
+use lib.ListN.{length, take, drop, replicate}
+use lib.Seq.{getD-drop, drop-drop, take-at, drop-at}
+use borrow.Author.Tests.{eq-eqb, ne-eqb}
+use Rattle.lists.specs.Search.{upFrom}
+use Rattle.lists.specs.Cells.{padded}
+use Rattle.lists.specs.laws.Search.{upFrom-range}
+use Rattle.lists.specs.laws.Cells.{length-padded}
+use Rattle.lists.specs.laws.Filled.{filling}
+use Rattle.lists.specs.laws.Flat.{flat-map, flat-none}
+use Rattle.plan_rules.specs.Plan.{nth, Route, Plan, path}
+use Rattle.plan_rules.specs.Fields.{tagFor, contentFor, fieldFor}
+use Rattle.plan_rules.specs.Canon.{canonical}
+use Rattle.plan_rules.specs.Good.{Good}
+use Rattle.plan_rules.specs.laws.Items.{path-in}
+use Rattle.plan_rules.specs.laws.Lengths.{path-length}
+use Rattle.plan_memory.specs.Memory.{pathRow, pathsInOrder, pathsOf}
+use Rattle.writing.specs.Out.{pathLinks, pathBytes}
+
+-- the field of a path
+unfoldable pathField : Route → List ℕ
+pathField x = fieldFor (path x)
+
+-- it has a link, and at most eight
+abbrev Walkable : Route → Type 0
+Walkable x = (1 ≤ length (x .links)) × (length (x .links) ≤ 8)
+
+row-length : (x : Route) → Walkable x → length (pathRow x) ≡ 11
+unfolding pathRow
+row-length x h = omega (arith, length-padded 8 0 (x .links) (h .1))
+
+module _ (m : List ℕ) where
+  -- row n begins with the row of a path
+  one-row : (n : ℕ) (x : Route) (rest : List ℕ) → Walkable x → drop (11 * n) m ≡ pathRow x ++ rest → pathBytes m n ≡ pathField x
+  unfolding pathBytes pathLinks pathField fieldFor tagFor contentFor pathRow padded
+  one-row n x rest h e =
+      let at : (k : ℕ) → nth m (11 * n + k) ≡ nth (pathRow x ++ rest) k = λ k. sym (getD-drop (11 * n) m k 0) ∙ ap (λ (l : List ℕ). nth l k) e in
+      let z : 11 * n ≡ 11 * n + 0 = omega arith in
+      let links : take (length (x .links)) (drop (11 * n + 3) m) ≡ x .links =
+      ap (take (length (x .links))) (sym (drop-drop 3 (11 * n) m) ∙ ap (drop 3) e ∙ append-assoc (x .links) (replicate (8 - length (x .links)) 0) rest)
+      ∙ take-at (x .links) (replicate (8 - length (x .links)) 0 ++ rest) (length (x .links)) refl in
+      rw (at 2, ne-eqb (length (x .links)) 0 (λ q. omega (arith, h .0)), at 1, links, ap (nth m) z ∙ at 0)
+
+  -- no path from row n on
+  no-rows : (n k z : ℕ) → drop (11 * n) m ≡ replicate z 0 → flatMap (pathBytes m) (upFrom k n) ≡ []
+  unfolding pathBytes
+  no-rows n k z e = flat-none (pathBytes m) (upFrom k n) (λ j i. rw (eq-eqb (nth m (11 * j + 2)) 0 (empty j ((upFrom-range k n j i) .0))))
+    where
+      empty : (j : ℕ) → n ≤ j → nth m (11 * j + 2) ≡ 0
+      empty j h =
+          let s : 11 * j + 2 ≡ 11 * n + (11 * (j - n) + 2) = omega arith in
+          ap (nth m) s ∙ sym (getD-drop (11 * n) m (11 * (j - n) + 2) 0) ∙ ap (λ (l : List ℕ). nth l (11 * (j - n) + 2)) e ∙ filling z (11 * (j - n) + 2) 0
+
+  rows-out : (xs : List Route) (n k z : ℕ) → length xs ≤ k → ((x : Route) → List·Memᴰ x xs → Walkable x) → drop (11 * n) m ≡ flatMap pathRow xs ++ replicate z 0
+      → flatMap (pathBytes m) (upFrom k n) ≡ flatMap pathField xs
+  unfolding flatMap upFrom
+  rows-out [] n k z l h e = no-rows n k z e
+  rows-out (x ∷ xs) n zero z l h e = absurd (omega arith)
+  rows-out (x ∷ xs) n (suc k) z l h e =
+      let w = h x (List·Memᴰ·head refl) in
+      let f : drop (11 * n) m ≡ pathRow x ++ (flatMap pathRow xs ++ replicate z 0) = e ∙ append-assoc (pathRow x) (flatMap pathRow xs) (replicate z 0) in
+      let s : 11 * suc n ≡ 11 * n + 11 = omega arith in
+      ap₂ (λ (a b : List ℕ). a ++ b) (one-row n x (flatMap pathRow xs ++ replicate z 0) w f)
+      (rows-out xs (suc n) k z (omega arith) (λ y i. h y (List·Memᴰ·tail i))
+      (ap (λ j. drop j m) s ∙ sym (drop-drop 11 (11 * n) m) ∙ ap (drop 11) f ∙ drop-at (pathRow x) (flatMap pathRow xs ++ replicate z 0) 11 (row-length x w)))
+
+pub paths-out : (p : Plan) → Good p → canonical p ≡ p → flatMap (pathBytes (pathsOf p)) (upFrom 128 0) ≡ flatMap fieldFor (map path (p .paths))
+unfolding canonical pathsOf pathsInOrder padded pathField
+paths-out p good e =
+    let f : pathsInOrder p ≡ p .paths = ap (λ (q : Plan). q .paths) e in
+    rows-out (pathsOf p) (p .paths) 0 128 (1408 - length (flatMap pathRow (pathsInOrder p))) (good .most) (λ x m. path-length x (good .lengths (path x) (path-in p x m)))
+    (ap (λ xs. flatMap pathRow xs ++ replicate (1408 - length (flatMap pathRow (pathsInOrder p))) 0) f) ∙ sym (flat-map fieldFor path (p .paths))

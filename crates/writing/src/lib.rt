@@ -1,0 +1,2 @@
+// Writing out: the plan in memory as a file again.
+pub mod out;
