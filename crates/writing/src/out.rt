@@ -13,9 +13,9 @@ ghost use Rattle.plan_rules.specs.Fields.{fourBytes};
 ghost use Rattle.plan_rules.specs.Copy.{copyAnswer, copied};
 ghost use Rattle.writing.specs.Held.{Held};
 ghost use Rattle.writing.specs.Out.{deviceBytes, linkBytes, pathBytes, rises, entryBytes, timingBytes};
-use reader::field::part;
 use line::print::put_bytes;
 use plan_rules::Copied;
+use reader::field::part;
 use sets::has;
 use sets::size;
 
