@@ -30,3 +30,5 @@ pub mod Puts
 pub mod Flat
 pub mod Kept
 pub mod Filled
+pub mod Counting
+pub mod Parts

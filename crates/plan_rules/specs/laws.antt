@@ -27,3 +27,4 @@ pub mod Same
 pub mod SameVerdict
 pub mod SameItems
 pub mod Canonical
+pub mod Verdicts

@@ -1,7 +1,7 @@
 -- A table whose numbers rise gives the number of the row that holds and before which none holds, and 0 exactly where no row holds.
 use mathlib.Core.Path.{_≡_, refl, sym, _∙_}
 use mathlib.Core.Logic.{_≢_, _↔_}
-use mathlib.Core.List.{List, [], _∷_}
+use mathlib.Core.List.{List, [], _∷_, _++_}
 use mathlib.Core.Bool.{Bool, true, false}
 use Prim.Native.Nat.{ℕ, _≤_, _<_}
 use native.Mathlib.Omega.{arith}
@@ -79,6 +79,27 @@ row-first rs m n p f = go (ℕ-discrete (firstOf rs) 0)
     go : Dec (firstOf rs ≡ 0) → firstOf rs ≡ n
     go (yes e) = not-both (f .holds) (no-row n rs m p e)
     go (no e) = same (first-row rs m p e) (decLt _ _) (decLt _ _)
+
+-- two tables one behind the other: the second decides where no row of the first holds
+pub first-in-front : (xs ys : List Row) → firstOf xs ≢ 0 → firstOf (xs ++ ys) ≡ firstOf xs
+unfolding firstOf
+first-in-front [] ys h = absurd (h refl)
+first-in-front (r ∷ xs) ys h = go (first-in-front xs ys) (r .1) refl
+  where
+    go : (firstOf xs ≢ 0 → firstOf (xs ++ ys) ≡ firstOf xs) → (b : Bool) → r .1 ≡ b → firstOf (r ∷ (xs ++ ys)) ≡ firstOf (r ∷ xs)
+    go ih true e = first-here r (xs ++ ys) e ∙ sym (first-here r xs e)
+    go ih false e = first-past r (xs ++ ys) e ∙ ih (rw (first-past r xs e) at h) ∙ sym (first-past r xs e)
+
+pub first-behind : (xs ys : List Row) (m : ℕ) → rise m xs ≡ true → firstOf xs ≡ 0 → firstOf (xs ++ ys) ≡ firstOf ys
+first-behind [] ys m p h = refl
+first-behind (r ∷ xs) ys m p h = go (first-behind xs ys (r .0) (q .1)) (r .1) refl
+  where
+    q : (m < r .0) × (rise (r .0) xs ≡ true)
+    q = rest-rise m r xs p
+
+    go : (firstOf xs ≡ 0 → firstOf (xs ++ ys) ≡ firstOf ys) → (b : Bool) → r .1 ≡ b → firstOf (r ∷ (xs ++ ys)) ≡ firstOf ys
+    go ih true e = absurd (omega (arith, q .0, sym (first-here r xs e) ∙ h))
+    go ih false e = first-past r (xs ++ ys) e ∙ ih (sym (first-past r xs e) ∙ h)
 
 module _ (rs : List Row) (p : rise 0 rs ≡ true) where
   -- the number given is n, and not 0: row n is the first that holds

@@ -25,6 +25,11 @@ module _ (s : List ℕ) (p : Plan) (read : readFile s ≡ plan p) where
   pub file-fair : Fair p
   file-fair = fair-items .0
 
+  -- which has as many bytes written out as the file
+  pub file-length : length s ≡ length (written p)
+  unfolding written
+  file-length = rw (fair-items .1) (omega (arith, read-items .size))
+
 module _ (s : List ℕ) (p : Plan) (clean : Clean s p) where
   abbrev read-whole : ReadOut s 0 blank 0 p
   read-whole = read-items s p (clean .reads)
@@ -33,14 +38,13 @@ module _ (s : List ℕ) (p : Plan) (clean : Clean s p) where
   whole = fair-items s p (clean .reads)
 
   clean-length : length s ≡ length (written p)
-  unfolding written
-  clean-length = rw (whole .1) (omega (arith, read-whole .size))
+  clean-length = file-length s p (clean .reads)
 
   clean-written : Bytes s → s ≡ written p
   unfolding written
   clean-written b = rw (whole .1) (read-whole .bytes b)
 
-  clean-good : Good p
+  pub clean-good : Good p
   clean-good =
       let f = whole .0 in
       record {

@@ -110,10 +110,10 @@ module _ (p : Plan) (before : ℕ) (x : Item) (up : UpTo p before) (f : Follows 
   reaches-to : UpTo p (tagFor x)
   reaches-to y m = omega (arith, up y m, no-fall before x (f .order))
 
-  up-grow : UpTo (grow p x) (tagFor x)
+  pub up-grow : UpTo (grow p x) (tagFor x)
   up-grow = each-grow (λ y. tagFor y ≤ tagFor x) p x reaches-to reaches-to (omega arith)
 
-  fair-grow : Fair p → Fair (grow p x)
+  pub fair-grow : Fair p → Fair (grow p x)
   fair-grow old = record {
     lengths = each-grow Sized p x reaches-to (old .lengths) (f .size);
     ranges = each-grow (λ y. outOfRange y ≡ false) p x reaches-to (old .ranges) (f .passes .range);
@@ -131,10 +131,10 @@ blank-items : items blank ≡ []
 unfolding items blank
 blank-items = refl
 
-no-items : (P : Item → Type 0) (y : Item) → List·Memᴰ y (items blank) → P y
+pub no-items : (P : Item → Type 0) (y : Item) → List·Memᴰ y (items blank) → P y
 no-items P y m = absurd (List·Memᴰ·not-nil (rw blank-items at m))
 
-blank-fair : Fair blank
+pub blank-fair : Fair blank
 unfolding blank repeats initiators isInitiator any keep below64 upFrom
 blank-fair = record {
   lengths = no-items Sized;

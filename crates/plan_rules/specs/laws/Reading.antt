@@ -21,12 +21,12 @@ use Rattle.plan_rules.specs.laws.Fields.{field-length, tag-back, size-ba
 use Rattle.plan_rules.specs.laws.Chain.{passed, Follows, Chain, end, next}
 
 -- a field without a fault holds an item that may follow
-record Holds (p : Plan) (s : List ℕ) (at before : ℕ) : Type 0 where
-  item : Item
-  is : itemAt s at ≡ some item
-  room : nextAt s at ≤ length s
-  fits : lengthAllowed (tagAt s at) (sizeAt s at) ≡ true
-  follows : Follows p before item
+pub record Holds (p : Plan) (s : List ℕ) (at before : ℕ) : Type 0 where
+  pub item : Item
+  pub is : itemAt s at ≡ some item
+  pub room : nextAt s at ≤ length s
+  pub fits : lengthAllowed (tagAt s at) (sizeAt s at) ≡ true
+  pub follows : Follows p before item
 
 module _ (p : Plan) (s : List ℕ) (at before : ℕ) where
   module _ (h : fieldFault p s at before ≡ 0) where
@@ -37,7 +37,7 @@ module _ (p : Plan) (s : List ℕ) (at before : ℕ) where
     unfolding headRows fieldRows testOf itemAt
     has-item = item-of (tagAt s at) _ (not-false _ (no-rows 3))
 
-    holds : Holds p s at before
+    pub holds : Holds p s at before
     unfolding headRows fieldRows itemRows testOf
     holds = go (has-item .0) (has-item .1)
       where

@@ -1,0 +1,6 @@
+pub mod Taking
+pub mod Heads
+pub mod Stands
+pub mod Blank
+pub mod Counts
+pub mod Loaded

@@ -1,0 +1,3 @@
+// A plan in memory: cleared, and loaded from a file.
+pub mod fields;
+pub mod load;
