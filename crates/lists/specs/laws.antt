@@ -32,3 +32,4 @@ pub mod Kept
 pub mod Filled
 pub mod Counting
 pub mod Parts
+pub mod Lines

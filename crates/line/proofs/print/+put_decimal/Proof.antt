@@ -1,4 +1,4 @@
--- `plan::print::put_decimal` meets its contract. It calls itself with a tenth of n, so its measure is n. Assumes nothing.
+-- `line::print::put_decimal` meets its contract. It calls itself with a tenth of n, so its measure is n. Assumes nothing.
 use Prim.Native.Nat.{ℕ, _<_}
 use native.Mathlib.Omega.{arith}
 use borrow.Author.Needs.{needs}

@@ -1,4 +1,4 @@
--- `plan::print::print_verdict` meets its contract: each case has the word and the numbers of its line. Assumes nothing.
+-- `line::print::print_verdict` meets its contract: each case has the word and the numbers of its line. Assumes nothing.
 use mathlib.Core.Path.{_≡_, ap}
 use mathlib.Core.List.{List, flatMap, _++_}
 use Prim.Native.Nat.{ℕ, _≤_}

@@ -1,4 +1,4 @@
--- `plan::print::put_bytes` meets its contract. The loop's invariant: the first i bytes of s are put. Assumes nothing.
+-- `line::print::put_bytes` meets its contract. The loop's invariant: the first i bytes of s are put. Assumes nothing.
 use mathlib.Core.Path.{refl}
 use Prim.Native.Nat.{_+_, _-_, _≤_}
 use native.Mathlib.Omega.{arith}

@@ -1,4 +1,4 @@
--- `plan::print::put_line` meets its contract: three runs of bytes, one after another. Assumes nothing.
+-- `line::print::put_line` meets its contract: three runs of bytes, one after another. Assumes nothing.
 use borrow.Author.Needs.{needs}
 use Rattle.lists.specs.laws.Stores.{put-then}
 use Rattle.line.proofs.print.put_line.Statement.{statement}

@@ -1,4 +1,4 @@
--- `plan::print::put_number` meets its contract: a number of sixteen bits has at most five digits. Assumes nothing.
+-- `line::print::put_number` meets its contract: a number of sixteen bits has at most five digits. Assumes nothing.
 use mathlib.Core.Path.{_∙_}
 use native.Mathlib.Omega.{arith}
 use lib.ListN.{length-set}

@@ -1,4 +1,4 @@
--- `plan::print::put_numbers` meets its contract. The loop's invariant: the first i numbers are put. Assumes nothing.
+-- `line::print::put_numbers` meets its contract. The loop's invariant: the first i numbers are put. Assumes nothing.
 use mathlib.Core.List.{flatMap}
 use Prim.Native.Nat.{_+_, _*_, _-_, _≤_}
 use native.Mathlib.Omega.{arith}

@@ -1,0 +1,85 @@
+-- A request's word comes apart again, and so does the live transaction's time: lateness, and what an entry permits, told from them.
+use mathlib.Core.Path.{_≡_, refl}
+use mathlib.Core.Option.{Option, none, some}
+use mathlib.Core.Bool.{Bool, true, false, not, _&&_}
+use Prim.Native.Nat.{ℕ, _+_, _*_, _/_, _%_, _^_}
+use native.Mathlib.Omega.{arith}
+use lib.Dec.{eqb, leb}
+use borrow.Author.Tests.{ne-eqb}
+use Rattle.lists.specs.Search.{isSome}
+use Rattle.sets.specs.Set.{member}
+use Rattle.plan_rules.specs.Plan.{Plan, Entry}
+use Rattle.plan_rules.specs.Meaning.{permits, fits}
+use Rattle.box_rules.specs.State.{Request, Live}
+use Rattle.box_rules.specs.Turn.{isLate, older, survives, allows}
+use Rattle.box_rules.specs.laws.Fit.{FitRequest, FitLive}
+use Rattle.initiators.specs.Run.{wordOf, liveWord, liveTime}
+use Rattle.initiators.specs.Row.{liveRequest, lateOf, Tells}
+
+-- the parts of a word are the request's
+pub record Apart (w : ℕ) (r : Request) : Type 0 where
+  pub target : w % 256 ≡ r .target
+  pub kind : w / 256 % 256 ≡ r .kind
+  pub length : w / 65_536 % 65_536 ≡ r .length
+  pub number : w / 4_294_967_296 % 65_536 ≡ r .number
+
+pub apart : (r : Request) → FitRequest r → Apart (wordOf r) r
+unfolding wordOf
+apart r f = record { target = omega arith; kind = omega arith; length = omega arith; number = omega arith }
+
+pub live-apart : (o : Option Live) → ((l : Live) → o ≡ some l → FitLive l) → Apart (liveWord o) (liveRequest o)
+unfolding liveWord liveRequest
+live-apart none f = record { target = refl; kind = refl; length = refl; number = refl }
+live-apart (some l) f = apart (l .request) (f l refl .request)
+
+-- a live transaction's time is never 0
+pub live-told : (o : Option Live) → ((l : Live) → o ≡ some l → FitLive l) → not (eqb (liveTime o) 0) ≡ isSome o
+unfolding liveTime isSome
+live-told none f = refl
+live-told (some l) f = let g = f l refl in rw (ne-eqb (l .span * 256 + l .age) 0 (λ e. omega (arith, g .young)))
+
+-- lateness, told from the time
+module _ (l : Live) (f : FitLive l) (q : Bool) (time : ℕ) (is : time ≡ liveTime (some l)) where
+  span-is : time / 256 ≡ l .span
+  unfolding liveTime
+  span-is = omega (arith, f .young, f .span)
+
+  age-is : time % 256 ≡ l .age
+  unfolding liveTime
+  age-is = omega (arith, f .young, f .span)
+
+  pub late-within : q ≡ true → leb (time / 256) (time % 256 + 1) ≡ isLate q l
+  unfolding isLate
+  late-within h = rw (h, span-is, age-is)
+
+  pub late-without : q ≡ false → true ≡ isLate q l
+  unfolding isLate
+  late-without h = rw h
+
+  pub older-time : (i : ℕ) → i ≡ (time + 1) % 2 ^ 64 → i ≡ liveTime (some (older l))
+  unfolding liveTime older
+  older-time i e = omega (arith, f .young, f .span)
+
+-- what is answered and what survives, by whether what is live is late
+module _ (q : Bool) (o : Option Live) (l : Live) (e : o ≡ some l) where
+  pub late-told : isLate q l ≡ true → (lateOf q o ≡ record { late = true; word = wordOf (l .request) }) × (survives q o ≡ none)
+  unfolding lateOf survives
+  late-told h = (rw (e, h), rw (e, h))
+
+  pub young-told : isLate q l ≡ false → (lateOf q o ≡ record { late = false; word = 0 }) × (survives q o ≡ some (older l))
+  unfolding lateOf survives
+  young-told h = (rw (e, h), rw (e, h))
+
+-- what an entry permits, told from the request's word
+module _ (p : Plan) (e : Entry) (r : Request) (targets span word : ℕ) (t : Tells targets span e) (f : FitRequest r) (is : word ≡ wordOf r) where
+  permitted : allows p e r ≡ member (word % 256) targets && leb (word / 65_536 % 65_536) (256 * span)
+  unfolding allows permits fits
+  permitted =
+      let a = apart r f in
+      rw (is, a .target, a .length, t .targets (r .target) (f .target), t .span)
+
+  pub permits-if : member (word % 256) targets ≡ true → leb (word / 65_536 % 65_536) (256 * span) ≡ allows p e r
+  permits-if h = rw (permitted, h)
+
+  pub permits-not : member (word % 256) targets ≡ false → false ≡ allows p e r
+  permits-not h = rw (permitted, h)

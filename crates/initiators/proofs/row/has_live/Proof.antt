@@ -1,0 +1,14 @@
+-- `has_live` meets its contract: a live transaction's time is never 0. Assumes nothing.
+use Rattle.initiators.proofs.row.Rows.{live-is}
+use borrow.Author.Needs.{needs}
+use Rattle.initiators.proofs.row.has_live.Statement.{statement}
+use Rattle.initiators.proofs.row.has_live.Tie as tie
+
+shared-slice-read-result : tie.Need-shared-slice-read-result
+shared-slice-read-result c = search needs
+
+returns : tie.Need-returns
+returns c = λ s f is. live-is s f (c .before .args .row .now) is
+
+pub has-live-spec : {M : Type 1} → statement M
+has-live-spec = tie.close (tie.spec shared-slice-read-result returns)

@@ -1,0 +1,14 @@
+-- `waiting` meets its contract. Assumes nothing.
+use Rattle.initiators.proofs.row.Rows.{count-at}
+use borrow.Author.Needs.{needs}
+use Rattle.initiators.proofs.row.waiting.Statement.{statement}
+use Rattle.initiators.proofs.row.waiting.Tie as tie
+
+shared-slice-read-result : tie.Need-shared-slice-read-result
+shared-slice-read-result c = search needs
+
+returns : tie.Need-returns
+returns c = λ s f is. count-at s f (c .before .args .row .now) is
+
+pub waiting-spec : {M : Type 1} → statement M
+waiting-spec = tie.close (tie.spec shared-slice-read-result returns)
