@@ -6,11 +6,7 @@ use lib.Dec.{eqb}
 use Rattle.plan_rules.specs.Plan.{Plan, blank}
 use Rattle.plan_rules.specs.Verdict.{number}
 use Rattle.plan_rules.specs.Judge.{judge}
-use Rattle.plan_rules.specs.Canon.{given, planOf}
+use Rattle.plan_rules.specs.Canon.{given}
 
-unfoldable pub held : List ℕ → Plan
-held s = cond (eqb (number (judge s)) 0) (planOf s) blank
-
--- the same with the plan in the file's order
 unfoldable pub left : List ℕ → Plan
 left s = cond (eqb (number (judge s)) 0) (given s) blank

@@ -1,0 +1,414 @@
+//! The box beside the model, on plans and events drawn at random.
+
+mod common;
+
+use common::model::{judged, Model, ModelPlan};
+use common::{device, entry, field, intervals, line, link, path, split, Driver, Random};
+use reference::{Event, Unit, Watchdog};
+
+/// More of them with the environment variable `CASES`, from another start with `START`.
+fn cases() -> u64 {
+    number("CASES").unwrap_or(600)
+}
+
+fn number(name: &str) -> Option<u64> {
+    std::env::var(name).ok()?.parse().ok()
+}
+
+#[test]
+fn box_and_model_agree() {
+    let mut random = Random(number("START").unwrap_or(0x1234_5678_9abc));
+    let mut driver = Driver::cleared();
+    let mut model = Model::new();
+    let mut seen = [0; 15];
+    for _ in 0..cases() {
+        let mut file = plan(&mut random);
+        while random.chance(45) {
+            file = spoilt(&file, &mut random);
+        }
+        let number = load(&mut driver, &mut model, &file);
+        seen[usize::from(number)] += 1;
+        if number == 0 {
+            check_written_out(&driver, &model);
+        }
+        let events = if number == 0 { 300 } else { 3 };
+        for _ in 0..events {
+            step(&mut driver, &mut model, &mut random);
+        }
+    }
+    let missing: Vec<usize> = (0..15).filter(|&number| seen[number] == 0).collect();
+    assert!(missing.is_empty(), "no verdict {missing:?} in {seen:?}");
+}
+
+/// Loads both and gives the verdict's number.
+fn load(driver: &mut Driver, model: &mut Model, file: &[u8]) -> u8 {
+    let verdict = driver.unit.load(file, &mut driver.watchdog);
+    let (number, values) = model.load(file);
+    assert_eq!(judged(&verdict), (number, values.clone()), "{file:?}");
+    let mut words = match number {
+        0 => vec!["ACCEPTED".to_owned()],
+        _ => vec!["REFUSED".to_owned(), number.to_string()],
+    };
+    words.extend(values.iter().map(u32::to_string));
+    assert_eq!(line(&verdict), words.join(" ") + "\n");
+    assert_eq!(driver.watchdog, model.watchdog);
+    if number != 0 {
+        assert_eq!(driver.unit, Unit::new());
+    }
+    number
+}
+
+fn check_written_out(driver: &Driver, model: &Model) {
+    let out = driver.written_out();
+    assert_eq!(out, model.plan().unwrap().written_out());
+    assert_eq!(Driver::new(&out).unit, driver.unit);
+}
+
+fn step(driver: &mut Driver, model: &mut Model, random: &mut Random) {
+    if random.chance(2) {
+        let five = strange_watchdog(random);
+        (driver.watchdog, model.watchdog) = (five, five);
+    }
+    let event = event(model, random);
+    let buffer = match random.below(20) {
+        0 => random.below(140),
+        _ => 136 + random.below(30),
+    };
+    let mut records = vec![0xa5; buffer];
+    let answer = driver.unit.step(event, &mut driver.watchdog, &mut records);
+    let (expected, mut bytes) = model.step(event, buffer);
+    assert_eq!(answer, expected, "{event:?}");
+    bytes.resize(buffer, 0xa5);
+    assert_eq!(records, bytes, "{event:?}");
+    assert_eq!(driver.watchdog, model.watchdog);
+}
+
+fn strange_watchdog(random: &mut Random) -> Watchdog {
+    let few = [0, 1, 2, 100, 0x7fff_ffff, 0x8000_0000, u32::MAX];
+    Watchdog {
+        last: random.pick(&few),
+        seen: random.pick(&few),
+        reported: random.pick(&few),
+        least: random.pick(&few),
+        greatest: random.pick(&few),
+    }
+}
+
+/// An event that makes sense most of the time.
+fn event(model: &Model, random: &mut Random) -> Event {
+    let strange = random.chance(5);
+    let clock = clock(model, random);
+    match random.below(10) {
+        0..4 => {
+            let byte = match model.last() {
+                _ if strange => random.next() as u8,
+                Some(last) if !random.chance(4) => (last + 1) % 64,
+                _ => random.below(64) as u8,
+            };
+            Event::TimeCode { byte, clock }
+        }
+        4..8 => request(model, strange, random),
+        8 => reply(model, strange, random),
+        _ => Event::Reading { clock },
+    }
+}
+
+fn clock(model: &Model, random: &mut Random) -> u32 {
+    let Watchdog {
+        last,
+        least,
+        greatest,
+        ..
+    } = model.watchdog;
+    let between = least.wrapping_add(greatest.wrapping_sub(least) / 2);
+    let elapsed = match random.below(8) {
+        0 => least.wrapping_sub(1),
+        1 => least,
+        2 => greatest,
+        3 => greatest.wrapping_add(1),
+        4 => random.next() as u32,
+        _ => between,
+    };
+    last.wrapping_add(elapsed)
+}
+
+fn request(model: &Model, strange: bool, random: &mut Random) -> Event {
+    let mut keys: Vec<(u8, u8)> = Vec::new();
+    let mut spans = vec![1];
+    if let Some(plan) = model.plan() {
+        for (&(initiator, _), (span, targets)) in &plan.entries {
+            keys.extend(targets.iter().map(|&target| (initiator, target)));
+            spans.push(*span);
+        }
+    }
+    let (mut initiator, mut target) = (random.next() as u8, random.next() as u8);
+    if !strange && !keys.is_empty() {
+        (initiator, target) = random.pick(&keys);
+    }
+    let most = 256 * u16::from(random.pick(&spans));
+    let length = match random.below(6) {
+        0 => 0,
+        1 => most,
+        2 => most + 1,
+        3 if strange => random.next() as u16,
+        _ => random.below(usize::from(most)) as u16,
+    };
+    let kind = if strange {
+        random.below(4)
+    } else {
+        random.below(2)
+    } as u8;
+    Event::Request {
+        initiator,
+        target,
+        kind,
+        length,
+    }
+}
+
+fn reply(model: &Model, strange: bool, random: &mut Random) -> Event {
+    let live = model.live();
+    let (mut initiator, mut number) = (random.below(70) as u8, random.below(4) as u16);
+    if !live.is_empty() {
+        (initiator, number) = random.pick(&live);
+    }
+    if strange {
+        number = random.next() as u16;
+    }
+    let status = random.below(20) as u8;
+    Event::Reply {
+        initiator,
+        number,
+        status,
+    }
+}
+
+/// A plan that is often accepted, its fields and targets in no order.
+fn plan(random: &mut Random) -> Vec<u8> {
+    let mut numbers: Vec<u8> = (0..64).collect();
+    random.shuffle(&mut numbers);
+    let (nodes, rest) = numbers.split_at(2 + random.below(14));
+    let routers = &rest[..random.below(8)];
+    let devices = [nodes, routers].concat();
+    let mut fields: Vec<Vec<u8>> = nodes.iter().map(|&node| device(node, 0)).collect();
+    fields.extend(routers.iter().map(|&router| device(router, 1)));
+
+    let links = network(&devices, routers, random);
+    fields.extend(
+        links
+            .iter()
+            .map(|&(number, one, other)| link(number, one, other)),
+    );
+
+    let initiators = &nodes[..nodes.len().min(1 + random.below(11))];
+    let mut found = Vec::new();
+    let between = match random.below(20) {
+        0 => &devices,
+        _ => routers,
+    };
+    for &initiator in initiators {
+        walks(&links, between, vec![initiator], vec![], &mut found);
+    }
+    if random.chance(95) {
+        found.retain(|(met, _)| !routers.contains(&met[met.len() - 1]));
+    }
+    random.shuffle(&mut found);
+    found.sort_by_key(|(met, _)| (met[0], met[met.len() - 1]));
+    found.dedup_by_key(|(met, _)| (met[0], met[met.len() - 1]));
+    random.shuffle(&mut found);
+    found.truncate(1 + random.below(128));
+    let ends = |met: &[u8]| (met[0], met[met.len() - 1]);
+    for (met, links) in &found {
+        let (initiator, target) = ends(met);
+        fields.push(path(initiator, target, links));
+    }
+
+    let pairs: Vec<(u8, u8)> = found.iter().map(|(met, _)| ends(met)).collect();
+    let careful = random.chance(90);
+    fields.push(five(random));
+    if !pairs.is_empty() {
+        add_entries(&mut fields, &pairs, careful, random);
+    }
+    random.shuffle(&mut fields);
+    fields.sort_by_key(|field| field[0]);
+    fields.concat()
+}
+
+fn five(random: &mut Random) -> Vec<u8> {
+    let (mut least, mut greatest) = (90, 110);
+    if random.chance(20) {
+        let top = 2_147_483_647;
+        greatest = random.pick(&[1, 2, 110, top - 1, top]);
+        least = random.pick(&[0, 1, greatest / 2, greatest]);
+    }
+    intervals(least, greatest)
+}
+
+/// Links that join every device to one before it, and some more.
+fn network(devices: &[u8], routers: &[u8], random: &mut Random) -> Vec<(u8, u8, u8)> {
+    let mut numbers: Vec<u8> = (0..64).collect();
+    random.shuffle(&mut numbers);
+    let mut links = Vec::new();
+    for (index, &device) in devices.iter().enumerate() {
+        let hub = match routers {
+            [] => devices[random.below(devices.len())],
+            _ => routers[random.below(routers.len())],
+        };
+        if hub != device && index < numbers.len() {
+            links.push((numbers[index], device, hub));
+        }
+    }
+    for &number in &numbers[devices.len()..][..random.below(12)] {
+        let (one, other) = (random.pick(devices), random.pick(devices));
+        if one != other {
+            links.push((number, one, other));
+        }
+    }
+    links
+}
+
+type Walk = (Vec<u8>, Vec<u8>);
+
+/// The devices and links of every walk on from this one, up to a bound on their number; it goes
+/// through devices that may stand between.
+fn walks(
+    all: &[(u8, u8, u8)],
+    between: &[u8],
+    met: Vec<u8>,
+    links: Vec<u8>,
+    found: &mut Vec<Walk>,
+) {
+    let here = met[met.len() - 1];
+    for &(number, one, other) in all {
+        let next = match here {
+            _ if here == one => other,
+            _ if here == other => one,
+            _ => continue,
+        };
+        if met.contains(&next) || links.len() == 8 || found.len() > 600 {
+            continue;
+        }
+        let met = [&met[..], &[next]].concat();
+        let links = [&links[..], &[number]].concat();
+        if between.contains(&next) {
+            walks(all, between, met.clone(), links.clone(), found);
+        }
+        found.push((met, links));
+    }
+}
+
+/// Adds entries; careful ones are left out again if they spoil the plan.
+fn add_entries(fields: &mut Vec<Vec<u8>>, pairs: &[(u8, u8)], careful: bool, random: &mut Random) {
+    for _ in 0..random.below(24) {
+        let (initiator, _) = random.pick(pairs);
+        let mut targets: Vec<u8> = pairs
+            .iter()
+            .filter(|&&(other, _)| other == initiator)
+            .map(|&(_, target)| target)
+            .collect();
+        random.shuffle(&mut targets);
+        targets.truncate(1 + random.below(if careful { 3 } else { 16 }));
+        targets.truncate(16);
+        let slot = match random.below(3) {
+            0 => random.pick(&[60, 61, 62, 63, 0, 1]),
+            _ => random.below(64) as u8,
+        };
+        let span = match random.below(3) {
+            0 => 1 + random.below(16),
+            _ => 1 + random.below(3),
+        };
+        let added = entry(initiator, slot, span as u8, &targets);
+        let five = fields.pop().unwrap();
+        fields.push(added);
+        fields.push(five);
+        if careful {
+            let mut sorted = fields.clone();
+            sorted.sort_by_key(|field| field[0]);
+            if ModelPlan::judge(&sorted.concat()).is_err() {
+                fields.remove(fields.len() - 2);
+            }
+        }
+    }
+}
+
+/// The file with one thing changed.
+fn spoilt(file: &[u8], random: &mut Random) -> Vec<u8> {
+    let mut file = file.to_vec();
+    if file.is_empty() {
+        return vec![random.next() as u8; random.below(4)];
+    }
+    let at = random.below(file.len());
+    match random.below(10) {
+        0 => file.truncate(at),
+        1 => file[at] = random.next() as u8,
+        2 => file[at] ^= 1 << random.below(8),
+        3 => file[at] = random.below(18) as u8,
+        4 => file.extend((0..random.below(5)).map(|_| random.below(7) as u8)),
+        5 => {
+            let times = 1 + random.below(1 + 17_000 / file.len());
+            file.extend(file.clone().repeat(times));
+        }
+        _ => return spoilt_fields(&file, random),
+    }
+    file
+}
+
+/// The same among the fields, if the file has them.
+fn spoilt_fields(file: &[u8], random: &mut Random) -> Vec<u8> {
+    if ModelPlan::judge(file).is_err() {
+        return file.to_vec();
+    }
+    let mut fields = split(file);
+    let at = random.below(fields.len());
+    match random.below(6) {
+        0 => {
+            fields.remove(at);
+        }
+        1 => {
+            let again = fields[at].clone();
+            fields.insert(at, again);
+        }
+        2 => {
+            let other = random.below(fields.len());
+            fields.swap(at, other);
+        }
+        3 => {
+            let content = &fields[at][3..];
+            let size = random.below(content.len() + 4);
+            let longer: Vec<u8> = content.iter().copied().cycle().take(size).collect();
+            fields[at] = field(fields[at][0], &longer);
+        }
+        _ => {
+            let index = 3 + random.below(fields[at].len() - 3);
+            let other = random.below(fields.len());
+            let other = random.pick(&fields[other][3..]);
+            fields[at][index] = other;
+        }
+    }
+    fields.concat()
+}
+
+#[test]
+fn ninth_initiators_and_129th_paths() {
+    let mut random = Random(99);
+    for _ in 0..40 {
+        let mut nodes: Vec<u8> = (0..30).collect();
+        random.shuffle(&mut nodes);
+        let mut fields: Vec<Vec<u8>> = nodes.iter().map(|&node| device(node, 0)).collect();
+        fields.push(device(50, 1));
+        fields.extend(nodes.iter().map(|&node| link(node, node, 50)));
+        let initiators = &nodes[..7 + random.below(3)];
+        let mut paths = Vec::new();
+        for &initiator in initiators {
+            for &target in &nodes[10..26 + random.below(2)] {
+                paths.push(path(initiator, target, &[initiator, target]));
+            }
+        }
+        random.shuffle(&mut paths);
+        fields.extend(paths);
+        fields.push(intervals(1, 1));
+        let mut driver = Driver::cleared();
+        let number = load(&mut driver, &mut Model::new(), &fields.concat());
+        assert!([0, 9].contains(&number));
+    }
+}

@@ -1,0 +1,214 @@
+//! The two programs, from standard input to standard output.
+
+mod common;
+
+use common::{entry, first_plan, intervals, plan_a, Driver};
+use std::io::{BufRead, BufReader, Write};
+use std::process::{Command, Stdio};
+
+const REPLAY: &str = env!("CARGO_BIN_EXE_reference-replay");
+const VERDICT: &str = env!("CARGO_BIN_EXE_reference-verdict");
+
+fn run(program: &str, input: &[u8]) -> String {
+    let mut child = Command::new(program)
+        .stdin(Stdio::piped())
+        .stdout(Stdio::piped())
+        .spawn()
+        .unwrap();
+    let mut stdin = child.stdin.take().unwrap();
+    let input = input.to_vec();
+    let writer = std::thread::spawn(move || {
+        // A program that has read enough may be gone before it has all.
+        let _ = stdin.write_all(&input);
+    });
+    let output = child.wait_with_output().unwrap();
+    writer.join().unwrap();
+    assert!(output.status.success());
+    String::from_utf8(output.stdout).unwrap()
+}
+
+fn hex(bytes: &[u8]) -> String {
+    if bytes.is_empty() {
+        return "-".to_owned();
+    }
+    bytes.iter().map(|byte| format!("{byte:02x}")).collect()
+}
+
+/// Runs the commands and checks what each one prints.
+fn replay(script: &[(&str, &str)]) {
+    let (commands, expected): (Vec<&str>, Vec<&str>) = script.iter().copied().unzip();
+    let printed = run(REPLAY, (commands.join("\n") + "\n").as_bytes());
+    let expected: Vec<&str> = expected
+        .into_iter()
+        .filter(|line| !line.is_empty())
+        .collect();
+    assert_eq!(printed.lines().collect::<Vec<&str>>(), expected);
+}
+
+#[test]
+fn verdict_program() {
+    assert_eq!(run(VERDICT, &first_plan()), "ACCEPTED 6 5 4 2\n");
+    assert_eq!(run(VERDICT, b""), "REFUSED 12 0\n");
+    assert_eq!(run(VERDICT, &[6, 0, 0]), "REFUSED 3 0\n");
+    assert_eq!(run(VERDICT, &[6; 16_384]), "REFUSED 3 0\n");
+    assert_eq!(run(VERDICT, &[6; 16_385]), "REFUSED 1 0\n");
+    assert_eq!(run(VERDICT, &[6; 200_000]), "REFUSED 1 0\n");
+    let clash = plan_a(&[entry(1, 63, 2, &[3]), entry(2, 0, 1, &[3])]);
+    assert_eq!(run(VERDICT, &clash), "REFUSED 14 0 1 2 2\n");
+}
+
+#[test]
+fn the_page_s_example() {
+    replay(&[
+        ("load 0500080000005a0000006e", "ACCEPTED 0 0 0 0"),
+        ("tc 0 1000 136", "0 0 -"),
+        ("clk 1111", "0 1"),
+    ]);
+}
+
+#[test]
+fn every_command() {
+    let load = format!("load {}", hex(&first_plan()));
+    let canonical = Driver::new(&first_plan()).written_out();
+    let size = canonical.len();
+    let out = format!("0 {size} {}", hex(&canonical));
+    let room = format!("out {size}");
+    let short = format!("out {}", size - 1);
+    replay(&[
+        ("# the box starts as after a clear", ""),
+        ("wd", "0 0 0 0 0"),
+        ("tc 0 0 136", "20 0 -"),
+        ("req 1 3 0 100", "20 0"),
+        ("rep 1 0 0", "20 0 0 0 0"),
+        ("clk 0", "20 0"),
+        ("out 32768", "20 0 -"),
+        (&load, "ACCEPTED 6 5 4 2"),
+        ("wd", "0 0 0 90 110"),
+        (&room, &out),
+        (&short, "30 0 -"),
+        ("req 1 3 0 100", "0 0"),
+        ("req 1 3 1 0", "0 1"),
+        ("req 3 3 0 0", "22 0"),
+        ("req 1 3 2 0", "23 0"),
+        ("req 1 3 0 65535", "24 0"),
+        ("req 1 255 0 0", "25 0"),
+        ("rep 1 0 0", "27 0 0 0 0"),
+        ("", ""),
+        ("tc 64 0 4096", "21 0 -"),
+        ("tc 0 1000 135", "29 0 -"),
+        ("tc 0 1000 136", "0 1 0501030000000064"),
+        ("wd", "1000 1 0 90 110"),
+        ("rep 1 65535 0", "28 0 0 0 0"),
+        ("rep 1 0 255", "0 3 100 255 2"),
+        ("clk 1111", "0 1"),
+        ("clk 1111", "0 0"),
+        ("wd", "1000 1 1 90 110"),
+        ("setwd 4294967295 9 0 4294967295 7", "OK"),
+        ("wd", "4294967295 1 0 4294967295 7"),
+        ("tc 5 0 4096", "0 2 01000005000000000300000500000000"),
+        ("load -", "REFUSED 12 0"),
+        ("wd", "0 0 0 0 0"),
+        ("setwd 1 1 1 1 1", "OK"),
+        ("clear", "CLEARED"),
+        ("wd", "0 0 0 0 0"),
+        ("clk 1", "20 0"),
+    ]);
+}
+
+#[test]
+fn what_is_no_command() {
+    let lines = [
+        "laod -",
+        "load",
+        "load ",
+        "load 0",
+        "load 0g",
+        "load 0A",
+        "load 00 ",
+        "load  00",
+        "load --",
+        "load 00 00",
+        " clear",
+        "clear ",
+        "clear 1",
+        "Clear",
+        "tc 256 0 136",
+        "tc 0 4294967296 136",
+        "tc 0 0 4097",
+        "tc 0 0",
+        "tc 0 0 136 1",
+        "tc -1 0 136",
+        "tc +1 0 136",
+        "tc 0x1 0 136",
+        "req 256 0 0 0",
+        "req 0 256 0 0",
+        "req 0 0 256 0",
+        "req 0 0 0 65536",
+        "rep 0 65536 0",
+        "rep 0 0 256",
+        "rep 256 0 0",
+        "clk 4294967296",
+        "clk 99999999999999999999999999",
+        "clk",
+        "clk ",
+        "out 32769",
+        "out -",
+        "wd 1",
+        "setwd 1 2 3 4",
+        "setwd 1 2 3 4 4294967296",
+        "setwd 1 2 3 4 5 6",
+        "clk 1\r",
+        "clk\t1",
+        " ",
+    ];
+    let load = format!("load {}", hex(&intervals(90, 110)));
+    let mut script = vec![
+        (load, "ACCEPTED 0 0 0 0".to_owned()),
+        ("setwd 1 1 0 3 4".to_owned(), "OK".to_owned()),
+    ];
+    for (index, line) in lines.iter().enumerate() {
+        script.push(((*line).to_owned(), format!("ERROR line {}", index + 3)));
+    }
+    script.push(("wd".to_owned(), "1 1 0 3 4".to_owned()));
+    script.push(("clk 6".to_owned(), "0 1".to_owned()));
+    let script: Vec<(&str, &str)> = script
+        .iter()
+        .map(|(command, expected)| (&command[..], &expected[..]))
+        .collect();
+    replay(&script);
+    let bytes = [&b"clear\n\xff\xfe\n\0\nclear"[..], &[]].concat();
+    assert_eq!(
+        run(REPLAY, &bytes),
+        "CLEARED\nERROR line 2\nERROR line 3\nCLEARED\n"
+    );
+}
+
+#[test]
+fn long_lines_and_no_last_newline() {
+    let most = format!("load {}", hex(&[6; 16_400]));
+    let more = format!("load {}", hex(&[6; 16_401]));
+    let allowed = format!("load {}", hex(&[6; 16_384]));
+    let script = [&most[..], &more, &allowed, "\n# none", "clear"].join("\n");
+    let printed = "REFUSED 1 0\nERROR line 2\nREFUSED 3 0\nCLEARED\n";
+    assert_eq!(run(REPLAY, script.as_bytes()), printed);
+    assert_eq!(run(REPLAY, b""), "");
+}
+
+#[test]
+fn each_answer_comes_before_the_next_command() {
+    let mut child = Command::new(REPLAY)
+        .stdin(Stdio::piped())
+        .stdout(Stdio::piped())
+        .spawn()
+        .unwrap();
+    let mut stdin = child.stdin.take().unwrap();
+    let mut stdout = BufReader::new(child.stdout.take().unwrap());
+    for _ in 0..3 {
+        stdin.write_all(b"clear\n").unwrap();
+        let mut line = String::new();
+        stdout.read_line(&mut line).unwrap();
+        assert_eq!(line, "CLEARED\n");
+    }
+    drop(stdin);
+    assert!(child.wait().unwrap().success());
+}

@@ -1,0 +1,247 @@
+//! Each refusal on either side of its line, and what refusals leave.
+
+mod common;
+
+use common::{entry, first_plan, plan_a, Driver};
+use reference::{Answer, Event, Refusal, Unit, Watchdog};
+
+fn time_code(byte: u8) -> Event {
+    Event::TimeCode { byte, clock: 7 }
+}
+
+fn request(initiator: u8, target: u8, kind: u8, length: u16) -> Event {
+    Event::Request {
+        initiator,
+        target,
+        kind,
+        length,
+    }
+}
+
+fn reply(initiator: u8, number: u16) -> Event {
+    Event::Reply {
+        initiator,
+        number,
+        status: 0,
+    }
+}
+
+/// The first plan with nothing waiting at 1, one live there, and a watchdog like no other.
+fn driver() -> Driver {
+    let mut driver = Driver::new(&first_plan());
+    driver.request(1, 3, 0, 100);
+    driver.time_code(0, 1000);
+    driver.watchdog = Watchdog {
+        last: 11,
+        seen: 12,
+        reported: 13,
+        least: 14,
+        greatest: 15,
+    };
+    driver
+}
+
+#[test]
+fn refusal_20_no_plan() {
+    let events = [
+        time_code(255),
+        request(200, 200, 9, 65_535),
+        reply(200, 9),
+        Event::Reading { clock: 9 },
+    ];
+    let mut cleared = driver();
+    cleared.unit.clear(&mut cleared.watchdog);
+    let mut refused = driver();
+    refused.unit.load(&[], &mut refused.watchdog);
+    for mut driver in [Driver::cleared(), cleared, refused] {
+        assert_eq!(driver.unit, Unit::new());
+        assert_eq!(driver.watchdog, Watchdog::new());
+        for event in events {
+            driver.refuses(event, 0, Refusal::NoPlan);
+            driver.refuses(event, 136, Refusal::NoPlan);
+        }
+        driver.watchdog.seen = 1;
+        driver.refuses(Event::Reading { clock: 9 }, 0, Refusal::NoPlan);
+        assert_eq!(driver.unit.write_out(&mut []), (20, 0));
+        let mut out = [0xa5; 20_000];
+        assert_eq!(driver.unit.write_out(&mut out), (20, 0));
+        assert_eq!(out, [0xa5; 20_000]);
+    }
+    let mut driver = driver();
+    assert_eq!(
+        driver.step(Event::Reading { clock: 9 }),
+        Answer::Reading { late: false }
+    );
+}
+
+#[test]
+fn refusal_21_upper_bits() {
+    for byte in 64..=255 {
+        driver().refuses(time_code(byte), 136, Refusal::UpperBits);
+        driver().refuses(time_code(byte), 0, Refusal::UpperBits);
+    }
+    for byte in 0..64 {
+        driver().time_code(byte, 7);
+    }
+}
+
+#[test]
+fn refusal_22_no_initiator() {
+    let mut driver = driver();
+    for initiator in (0..=255).filter(|initiator| ![1, 2].contains(initiator)) {
+        driver.refuses(request(initiator, 3, 9, 65_535), 0, Refusal::NoInitiator);
+        driver.refuses(reply(initiator, 0), 0, Refusal::NoInitiator);
+    }
+    assert_eq!(driver.request(2, 4, 0, 0), Answer::Taken { number: 0 });
+}
+
+#[test]
+fn refusal_23_kind() {
+    let mut driver = driver();
+    for kind in 2..=255 {
+        driver.refuses(request(1, 200, kind, 65_535), 0, Refusal::Kind);
+    }
+    assert_eq!(driver.request(1, 3, 0, 1), Answer::Taken { number: 1 });
+    assert_eq!(driver.request(1, 3, 1, 1), Answer::Taken { number: 2 });
+}
+
+#[test]
+fn refusal_24_length() {
+    let mut driver = Driver::new(&plan_a(&[entry(1, 0, 16, &[3])]));
+    driver.refuses(request(1, 200, 0, 4_097), 0, Refusal::Length);
+    driver.refuses(request(1, 3, 0, 65_535), 0, Refusal::Length);
+    assert_eq!(driver.request(1, 3, 0, 4_096), Answer::Taken { number: 0 });
+}
+
+#[test]
+fn refusal_25_not_permitted() {
+    for span in 1..=16 {
+        let entries = [entry(1, 0, span, &[3]), entry(1, 30, 1, &[4])];
+        let mut driver = Driver::new(&plan_a(&entries));
+        let most = 256 * u16::from(span);
+        for length in [0, 1, most - 1, most] {
+            assert!(matches!(
+                driver.request(1, 3, 0, length),
+                Answer::Taken { .. }
+            ));
+        }
+        if span < 16 {
+            driver.refuses(request(1, 3, 0, most + 1), 0, Refusal::NotPermitted);
+        }
+        // The span of one entry and the target of another are not enough.
+        driver.refuses(request(1, 4, 0, 257), 0, Refusal::NotPermitted);
+        assert_eq!(driver.request(1, 4, 0, 256), Answer::Taken { number: 4 });
+        for target in (0..=255).filter(|target| ![3, 4].contains(target)) {
+            driver.refuses(request(1, target, 0, 0), 0, Refusal::NotPermitted);
+        }
+        driver.refuses(request(2, 4, 0, 0), 0, Refusal::NotPermitted);
+    }
+}
+
+#[test]
+fn refusal_26_line_full() {
+    let mut driver = driver();
+    for number in 1..=8 {
+        assert_eq!(driver.request(1, 3, 0, 1), Answer::Taken { number });
+    }
+    driver.refuses(request(1, 3, 0, 1), 0, Refusal::LineFull);
+    driver.refuses(request(1, 4, 0, 1), 0, Refusal::NotPermitted);
+    assert_eq!(driver.request(2, 4, 0, 1), Answer::Taken { number: 0 });
+    for byte in 1..64 {
+        driver.time_code(byte, 7);
+    }
+    driver.refuses(request(1, 3, 0, 1), 0, Refusal::LineFull);
+    // Early, and the oldest of each initiator starts.
+    let kinds = driver.time_code(0, 7).into_iter().map(|record| record[0]);
+    assert_eq!(kinds.collect::<Vec<u8>>(), [1, 5, 5]);
+    assert_eq!(driver.request(1, 3, 0, 1), Answer::Taken { number: 9 });
+    driver.refuses(request(1, 3, 0, 1), 0, Refusal::LineFull);
+}
+
+#[test]
+fn refusals_27_and_28() {
+    let mut driver = driver();
+    driver.refuses(reply(2, 0), 0, Refusal::NothingLive);
+    driver.refuses(reply(1, 1), 0, Refusal::OtherNumber);
+    driver.refuses(reply(1, 65_535), 0, Refusal::OtherNumber);
+    let ended = Answer::Ended {
+        target: 3,
+        length: 100,
+        status: 0,
+        class: 0,
+    };
+    assert_eq!(driver.step(reply(1, 0)), ended);
+    driver.refuses(reply(1, 0), 0, Refusal::NothingLive);
+    // Waiting is not live.
+    driver.request(1, 3, 0, 1);
+    driver.refuses(reply(1, 1), 0, Refusal::NothingLive);
+}
+
+#[test]
+fn refusal_29_small_buffer() {
+    for buffer in 0..136 {
+        driver().refuses(time_code(1), buffer, Refusal::SmallBuffer);
+        let mut quiet = Driver::new(&plan_a(&[]));
+        quiet.refuses(time_code(0), buffer, Refusal::SmallBuffer);
+    }
+    for buffer in 136..300 {
+        let mut driver = driver();
+        let mut records = vec![0xa5; buffer];
+        let event = time_code(1);
+        let answer = driver.unit.step(event, &mut driver.watchdog, &mut records);
+        assert_eq!(answer, Answer::Records { count: 1 });
+        assert_eq!(records[..8], [4, 1, 3, 1, 0, 0, 0, 100]);
+        assert!(records[8..].iter().all(|&byte| byte == 0xa5));
+    }
+}
+
+#[test]
+fn refusal_30_small_room() {
+    let driver = driver();
+    let size = first_plan().len();
+    for room in 0..size {
+        let mut out = vec![0xa5; room];
+        assert_eq!(driver.unit.write_out(&mut out), (30, 0));
+        assert!(out.iter().all(|&byte| byte == 0xa5));
+    }
+    for room in size..size + 20 {
+        let mut out = vec![0xa5; room];
+        assert_eq!(driver.unit.write_out(&mut out), (0, size));
+        assert_eq!(out[..size], driver.written_out());
+        assert!(out[size..].iter().all(|&byte| byte == 0xa5));
+    }
+}
+
+#[test]
+fn only_a_time_code_writes_the_buffer() {
+    let mut driver = driver();
+    let mut records = [0xa5; 200];
+    for event in [
+        request(1, 3, 0, 1),
+        reply(1, 0),
+        Event::Reading { clock: 0 },
+    ] {
+        let answer = driver.unit.step(event, &mut driver.watchdog, &mut records);
+        assert_eq!(answer.number(), 0);
+        assert_eq!(records, [0xa5; 200]);
+    }
+}
+
+#[test]
+fn classes_of_status() {
+    for status in 0..=255 {
+        let expected = match status {
+            0 => 0,
+            1 | 2 | 3 | 4 | 5 | 6 | 7 | 9 | 10 | 11 | 12 => 1,
+            _ => 2,
+        };
+        let answer = driver().reply(1, 0, status);
+        let ended = Answer::Ended {
+            target: 3,
+            length: 100,
+            status,
+            class: expected,
+        };
+        assert_eq!(answer, ended);
+    }
+}

@@ -1,0 +1,132 @@
+//! Writing out and reading back.
+
+mod common;
+
+use common::model::ModelPlan;
+use common::{device, entry, first_plan, intervals, link, path, plan_a, split, Driver, Random};
+use reference::{Unit, WRITTEN_OUT};
+
+#[test]
+fn plan_a_written_out() {
+    let mut expected = Vec::new();
+    expected.extend([device(1, 0), device(2, 0), device(3, 0), device(4, 0)].concat());
+    expected.extend([device(10, 1), device(11, 1)].concat());
+    expected.extend([link(0, 1, 10), link(1, 2, 11), link(2, 3, 10)].concat());
+    expected.extend([link(3, 4, 11), link(4, 10, 11)].concat());
+    expected.extend([path(1, 3, &[0, 2]), path(1, 4, &[0, 4, 3])].concat());
+    expected.extend([path(2, 3, &[1, 4, 2]), path(2, 4, &[1, 3])].concat());
+    expected.extend([entry(1, 5, 2, &[3, 4]), entry(1, 60, 4, &[3])].concat());
+    expected.extend([entry(2, 0, 1, &[4]), entry(2, 59, 1, &[3])].concat());
+    expected.extend(intervals(90, 110));
+    let file = plan_a(&[
+        entry(2, 59, 1, &[3]),
+        entry(1, 60, 4, &[3]),
+        entry(2, 0, 1, &[4]),
+        entry(1, 5, 2, &[4, 3]),
+    ]);
+    let driver = Driver::new(&file);
+    assert_eq!(driver.written_out(), expected);
+    assert_eq!(Driver::new(&expected).unit, driver.unit);
+    assert_eq!(Driver::new(&expected).watchdog, driver.watchdog);
+}
+
+#[test]
+fn events_leave_the_plan() {
+    let mut driver = Driver::new(&first_plan());
+    let before = driver.written_out();
+    driver.request(1, 3, 0, 100);
+    driver.time_code(0, 1000);
+    driver.time_code(7, 1000);
+    assert_eq!(driver.written_out(), before);
+}
+
+/// Eight initiators, each at a router of its own with six targets; the routers stand in a ring.
+/// 64 devices, 64 links, 128 paths, 512 entries.
+fn full_plan() -> Vec<u8> {
+    let mut file = Vec::new();
+    for number in 0..64 {
+        file.extend(device(number, u8::from((8..16).contains(&number))));
+    }
+    for row in 0..8 {
+        file.extend(link(row, row, 8 + row));
+        file.extend(link(8 + row, 8 + row, 8 + (row + 1) % 8));
+    }
+    for target in 16..64 {
+        file.extend(link(target, target, 8 + (target - 16) / 6));
+    }
+    for row in 0..8 {
+        for target in 16..64 {
+            let hops = ((target - 16) / 6 + 8 - row) % 8;
+            if hops == 0 || hops == 5 || hops == 6 && target % 6 < 4 {
+                let mut links = vec![row];
+                links.extend((0..hops).map(|hop| 8 + (row + hop) % 8));
+                links.push(target);
+                file.extend(path(row, target, &links));
+            }
+        }
+    }
+    for row in 0..8 {
+        for slot in 0..64 {
+            let targets: Vec<u8> = (0..6).map(|index| 16 + 6 * row + index).collect();
+            file.extend(entry(row, slot, 1, &targets));
+        }
+    }
+    file.extend(intervals(1, 2));
+    file
+}
+
+/// The same plan in another order.
+fn shuffled(file: &[u8], random: &mut Random) -> Vec<u8> {
+    let mut fields = split(file);
+    random.shuffle(&mut fields);
+    fields.sort_by_key(|field| field[0]);
+    for field in &mut fields {
+        match field[0] {
+            2 if random.chance(50) => field.swap(4, 5),
+            4 => random.shuffle(&mut field[6..]),
+            _ => (),
+        }
+    }
+    fields.concat()
+}
+
+#[test]
+fn orders_make_no_difference() {
+    let mut random = Random(7);
+    let many = plan_a(&[
+        entry(1, 0, 3, &[3]),
+        entry(1, 60, 4, &[4, 3]),
+        entry(2, 59, 1, &[3, 4]),
+        entry(2, 0, 1, &[4]),
+    ]);
+    for file in [many, full_plan()] {
+        let first = Driver::new(&file);
+        let expected = ModelPlan::judge(&file).unwrap().written_out();
+        assert_eq!(first.written_out(), expected);
+        for _ in 0..50 {
+            let driver = Driver::new(&shuffled(&file, &mut random));
+            assert_eq!(driver.written_out(), expected);
+            assert_eq!(driver.unit, first.unit);
+        }
+    }
+}
+
+#[test]
+fn room_for_every_plan() {
+    // 64 devices and links, 128 paths of 8 links, 512 entries of 16 targets, and intervals.
+    assert_eq!(WRITTEN_OUT, 64 * 5 + 64 * 6 + 128 * 13 + 512 * 22 + 11);
+}
+
+#[test]
+fn one_load_after_another_leaves_nothing() {
+    let mut driver = Driver::new(&full_plan());
+    driver.request(0, 16, 0, 1);
+    driver.time_code(0, 5);
+    let verdict = driver.unit.load(&first_plan(), &mut driver.watchdog);
+    assert_eq!(verdict.number(), 0);
+    let fresh = Driver::new(&first_plan());
+    assert_eq!(driver.unit, fresh.unit);
+    assert_eq!(driver.watchdog, fresh.watchdog);
+    driver.unit.clear(&mut driver.watchdog);
+    assert_eq!(driver.unit, Unit::new());
+}
