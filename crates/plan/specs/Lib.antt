@@ -1,3 +1,4 @@
 pub mod Fields
 pub mod Load
+pub mod Back
 pub mod laws

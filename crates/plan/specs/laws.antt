@@ -1,6 +1,5 @@
 pub mod Taking
 pub mod Heads
 pub mod Stands
-pub mod Blank
 pub mod Counts
 pub mod Loaded

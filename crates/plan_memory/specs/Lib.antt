@@ -1,3 +1,4 @@
 pub mod Memory
+pub mod Held
 pub mod Take
 pub mod laws

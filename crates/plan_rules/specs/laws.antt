@@ -21,6 +21,7 @@ pub mod Ordered
 pub mod Reads
 pub mod Entries
 pub mod Size
+pub mod Copies
 pub mod GoodSound
 pub mod Runs
 pub mod Same

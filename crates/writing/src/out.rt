@@ -11,7 +11,7 @@ ghost use Rattle.lists.specs.Puts.{Puts};
 ghost use Rattle.plan_rules.specs.Plan.{Plan};
 ghost use Rattle.plan_rules.specs.Fields.{fourBytes};
 ghost use Rattle.plan_rules.specs.Copy.{copyAnswer, copied};
-ghost use Rattle.writing.specs.Held.{Held};
+ghost use Rattle.plan_memory.specs.Held.{Held};
 ghost use Rattle.writing.specs.Out.{deviceBytes, linkBytes, pathBytes, rises, entryBytes, timingBytes};
 use line::print::put_bytes;
 use plan_rules::Copied;

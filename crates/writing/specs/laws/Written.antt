@@ -1,11 +1,11 @@
 -- Writing out of memory that holds a plan: the bytes are those of the plan, and the answers those of the rules.
 use mathlib.Core.Path.{_≡_, refl, sym, ap, _∙_}
-use mathlib.Core.List.{List, [], _∷_, map, flatMap, append-nil, List·Memᴰ·head}
+use mathlib.Core.Logic.{_≢_}
+use mathlib.Core.List.{List, [], _∷_, map, flatMap, append-nil}
 use mathlib.Core.Option.{Option, none, some}
 use Prim.Native.Nat.{ℕ, _%_, _≤_, _<_}
 use native.Mathlib.Omega.{arith}
 use lib.ListN.{length}
-use borrow.Author.Tests.{lt-ltb, le-ltb}
 use Rattle.lists.specs.Search.{isSome}
 use Rattle.lists.specs.Rows.{firstOf}
 use Rattle.lists.specs.Puts.{Puts}
@@ -15,13 +15,13 @@ use Rattle.plan_rules.specs.declared.Copied.the-variants.{NotWritten, Written}
 use Rattle.plan_rules.specs.Plan.{nth, Timing, Plan, blank, timing}
 use Rattle.plan_rules.specs.Fields.{fieldFor}
 use Rattle.plan_rules.specs.Canon.{canonical, items, written}
-use Rattle.plan_rules.specs.Copy.{bytesOf, copyRows, copyRefusal, copyAnswer, copied}
+use Rattle.plan_rules.specs.Copy.{copyRows, copyRefusal, copyAnswer, copied}
 use Rattle.plan_rules.specs.Good.{Good}
-use Rattle.plan_rules.specs.laws.Items.{timing-in}
-use Rattle.plan_rules.specs.laws.Ranges.{timing-range}
 use Rattle.plan_rules.specs.laws.Size.{most-bytes}
+use Rattle.plan_rules.specs.laws.Copies.{no-room, answers-size, puts-bytes}
 use Rattle.plan_memory.specs.Memory.{setsOf, endsOf, rowsOf, pathsOf, spansOf, aimsOf, leastOf, greatestOf, numbersWith, numbersOf}
-use Rattle.writing.specs.Held.{Held, HoldsPlan}
+use Rattle.plan_memory.specs.Held.{Held, HoldsPlan}
+use Rattle.plan_memory.specs.laws.BlankMemory.{good-not-blank}
 use Rattle.writing.specs.Out.{timingBytes, outBytes}
 use Rattle.writing.specs.laws.Devices.{devices-out}
 use Rattle.writing.specs.laws.Links.{links-out}
@@ -35,29 +35,10 @@ timing-out [] h = absurd (omega arith)
 timing-out (t ∷ []) h = sym (append-nil (fieldFor (timing t)))
 timing-out (t ∷ s ∷ ts) h = absurd (omega arith)
 
--- its greatest interval is not 0
-module _ (p : Plan) (good : Good p) where
-  some-interval : 0 < greatestOf (p .timings)
-  unfolding greatestOf
-  some-interval = go (p .timings) refl
-    where
-      go : (ts : List Timing) → p .timings ≡ ts → 0 < greatestOf ts
-      go [] e = absurd (omega (arith, good .timing, ap length e))
-      go (t ∷ ts) e = (timing-range t (good .ranges (timing t) (timing-in p t (rw e (List·Memᴰ·head refl))))) .some
-
-  -- the bytes that the memory of a plan gives are those of the plan
-  plan-out : canonical p ≡ p → outBytes (setsOf p) (endsOf p) (rowsOf p) (pathsOf p) (spansOf p) (aimsOf p) (numbersOf p) ≡ written p
-  unfolding outBytes setsOf numbersOf numbersWith written items
-  plan-out e = rw (devices-out p good e, links-out p good e, paths-out p good e, entries-out p good e, timing-out (p .timings) (good .timing)) (simp flat-append)
-
--- refusal 30, or none, where there is a plan
-no-room : (room : ℕ) (p : Plan) → room < length (written p) → copyRefusal room (some p) ≡ 30
-unfolding copyRefusal copyRows bytesOf firstOf isSome
-no-room room p h = rw (lt-ltb room (length (written p)) h)
-
-has-room : (room : ℕ) (p : Plan) → length (written p) ≤ room → copyRefusal room (some p) ≡ 0
-unfolding copyRefusal copyRows bytesOf firstOf isSome
-has-room room p h = rw (le-ltb room (length (written p)) h)
+-- the bytes that the memory of a plan gives are those of the plan
+plan-out : (p : Plan) → Good p → canonical p ≡ p → outBytes (setsOf p) (endsOf p) (rowsOf p) (pathsOf p) (spansOf p) (aimsOf p) (numbersOf p) ≡ written p
+unfolding outBytes setsOf numbersOf numbersWith written items
+plan-out p good e = rw (devices-out p good e, links-out p good e, paths-out p good e, entries-out p good e, timing-out (p .timings) (good .timing)) (simp flat-append)
 
 module _ {sets ends rows reach paths spans aims numbers : List ℕ} where
   no-interval : Held none sets ends rows reach paths spans aims numbers → nth numbers 1 ≡ 0
@@ -65,9 +46,8 @@ module _ {sets ends rows reach paths spans aims numbers : List ℕ} where
   no-interval h = ap (λ (l : List ℕ). nth l 1) (h .numbers)
 
   module _ (p : Plan) (h : HoldsPlan p sets ends rows reach paths spans aims numbers) where
-    an-interval : nth numbers 1 ≡ 0 → ⊥
-    unfolding numbersOf numbersWith
-    an-interval e = omega (arith, some-interval p (h .good), sym (ap (λ (l : List ℕ). nth l 1) (h .holds .numbers)) ∙ e)
+    an-interval : nth numbers 1 ≢ 0
+    an-interval = good-not-blank p (h .good) sets ends rows reach paths spans aims numbers (h .holds)
 
     size-at : nth numbers 5 % 65536 ≡ length (written p)
     unfolding numbersOf numbersWith
@@ -93,10 +73,8 @@ module _ (sets ends rows reach paths spans aims numbers buffer : List ℕ) where
   pub writes : (nth numbers 1 ≡ 0 → ⊥) → nth numbers 5 % 65536 ≤ length buffer → {after : List ℕ} {k : ℕ}
       → Puts buffer 0 (outBytes sets ends rows paths spans aims numbers) after k → (o : Option Plan) → Held o sets ends rows reach paths spans aims numbers
       → (Written (nth numbers 5 % 65536) ≡ copyAnswer (length buffer) o) × (after ≡ copied o buffer)
-  unfolding copyAnswer copied bytesOf
   writes d l f none h = absurd (d (no-interval h))
   writes d l f (some p) h =
       let r : length (written p) ≤ length buffer = omega (arith, size-at p h) in
-      let e = has-room (length buffer) p r in
       let g = rw (bytes-at p h) at f in
-      (rw (size-at p h, e, copyAnswer), rw (e, copied) ((put-front (g .fitting (omega arith)) r) .1))
+      (rw (size-at p h) (sym (answers-size p buffer r)), (put-front (g .fitting (omega arith)) r) .1 ∙ sym (puts-bytes p buffer r))

@@ -1,4 +1,4 @@
--- `plan::entry::entry_range` meets its contract: the first comparison that fails decides, and at last the targets do.
+-- `items::entry::entry_range` meets its contract: the first comparison that fails decides, and at last the targets do.
 -- Assumes nothing.
 use mathlib.Core.Path.{sym, _∙_}
 use borrow.Author.Needs.{needs}

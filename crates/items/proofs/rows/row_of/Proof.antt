@@ -1,4 +1,4 @@
--- `plan::rows::row_of` meets its contract: the rows passed have other initiators, so the rest decides.
+-- `items::rows::row_of` meets its contract: the rows passed have other initiators, so the rest decides.
 -- Assumes nothing.
 use mathlib.Core.Path.{_≡_, sym, ap, _∙_}
 use Prim.Native.Nat.{ℕ, _-_}

@@ -1,4 +1,4 @@
--- `plan::several::all_in` meets its contract: the numbers passed are all in the set, so the rest decides.
+-- `items::several::all_in` meets its contract: the numbers passed are all in the set, so the rest decides.
 -- Assumes nothing.
 use mathlib.Core.Path.{_≡_, refl, sym, _∙_}
 use Prim.Native.Nat.{ℕ, _-_}

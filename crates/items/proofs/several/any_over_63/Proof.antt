@@ -1,4 +1,4 @@
--- `plan::several::any_over_63` meets its contract: the numbers passed are none over 63, so the rest decides.
+-- `items::several::any_over_63` meets its contract: the numbers passed are none over 63, so the rest decides.
 -- Assumes nothing.
 use mathlib.Core.Path.{_≡_, refl, sym}
 use Prim.Native.Nat.{_-_}

@@ -1,4 +1,4 @@
--- `plan::several::has_twice` meets its contract: the set of the numbers passed tells whether the next is among them.
+-- `items::several::has_twice` meets its contract: the set of the numbers passed tells whether the next is among them.
 -- Assumes nothing.
 use mathlib.Core.Path.{_≡_, refl, sym, ap, _∙_}
 use mathlib.Core.List.{List}

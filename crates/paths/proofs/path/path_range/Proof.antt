@@ -1,4 +1,4 @@
--- `plan::path::path_range` meets its contract: test by test.
+-- `paths::path::path_range` meets its contract: test by test.
 use mathlib.Core.Path.{sym, _∙_}
 use borrow.Author.Needs.{needs}
 use Rattle.paths.specs.laws.PathFaults.{range-initiator, range-target, range-links, range-ends}

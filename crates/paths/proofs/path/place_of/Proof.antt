@@ -1,4 +1,4 @@
--- `plan::path::place_of` meets its contract: the path precedes none of the first k.
+-- `paths::path::place_of` meets its contract: the path precedes none of the first k.
 use mathlib.Core.Path.{_≡_, sym}
 use mathlib.Core.Logic.{⊎-elim}
 use mathlib.Core.List.{List}

@@ -1,4 +1,4 @@
--- `plan::field::between` meets its contract: each way out has the test that decides it. Assumes nothing.
+-- `reader::field::between` meets its contract: each way out has the test that decides it. Assumes nothing.
 use borrow.Author.Tests.{le-leb, lt-leb}
 use Rattle.reader.proofs.field.between.Statement.{statement}
 use Rattle.reader.proofs.field.between.Tie as tie

@@ -1,4 +1,4 @@
--- `plan::field::comes_once` meets its contract, by the rows of the table. Assumes nothing.
+-- `reader::field::comes_once` meets its contract, by the rows of the table. Assumes nothing.
 use Rattle.reader.proofs.field.Tags.{once-is}
 use Rattle.reader.proofs.field.comes_once.Statement.{statement}
 use Rattle.reader.proofs.field.comes_once.Tie as tie

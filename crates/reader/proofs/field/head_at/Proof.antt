@@ -1,4 +1,4 @@
--- `plan::field::head_at` meets its contract: each way out knows the tests of the rows up to the one that decides.
+-- `reader::field::head_at` meets its contract: each way out knows the tests of the rows up to the one that decides.
 -- Assumes nothing.
 use mathlib.Core.Path.{_≡_, refl, sym, ap, _∙_}
 use mathlib.Core.Logic.{⊎-elim}

@@ -1,4 +1,4 @@
--- `plan::field::is_tag` meets its contract: the range of the match is that of the table's rows. Assumes nothing.
+-- `reader::field::is_tag` meets its contract: the range of the match is that of the table's rows. Assumes nothing.
 use native.Mathlib.Omega.{arith}
 use mathlib.Core.Path.{sym}
 use Rattle.reader.proofs.field.Tags.{tag-known, tag-unknown}

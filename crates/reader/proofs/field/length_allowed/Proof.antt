@@ -1,4 +1,4 @@
--- `plan::field::length_allowed` meets its contract: each arm has the bounds of the row with its number. Assumes nothing.
+-- `reader::field::length_allowed` meets its contract: each arm has the bounds of the row with its number. Assumes nothing.
 use mathlib.Core.Path.{refl, _∙_}
 use native.Mathlib.Omega.{arith}
 use borrow.Author.Needs.{needs}

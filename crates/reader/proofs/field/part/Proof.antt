@@ -1,4 +1,4 @@
--- `plan::field::part` meets its contract: where the file ends first, so do both parts. Assumes nothing.
+-- `reader::field::part` meets its contract: where the file ends first, so do both parts. Assumes nothing.
 use mathlib.Core.Path.{_≡_, sym, ap, _∙_}
 use Prim.Native.Nat.{ℕ, _+_, _-_, _≤_}
 use native.Mathlib.Omega.{arith}

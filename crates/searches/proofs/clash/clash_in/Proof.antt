@@ -1,4 +1,4 @@
--- `plan::clash::clash_in` meets its contract. The loop's invariant: no row passed meets one after it.
+-- `searches::clash::clash_in` meets its contract. The loop's invariant: no row passed meets one after it.
 -- Assumes nothing.
 use mathlib.Core.Path.{ap, _∙_}
 use Prim.Native.Nat.{_≤_, _-_}

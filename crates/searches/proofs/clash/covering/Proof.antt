@@ -1,4 +1,4 @@
--- `plan::clash::covering` meets its contract. The loop's invariant: no entry in the slots passed covers the slot.
+-- `searches::clash::covering` meets its contract. The loop's invariant: no entry in the slots passed covers the slot.
 -- Assumes nothing.
 use mathlib.Core.Path.{_≡_}
 use mathlib.Core.Bool.{false}

@@ -1,4 +1,4 @@
--- `plan::clash::find_clash` meets its contract. The loop's invariant: no slot passed has a clash.
+-- `searches::clash::find_clash` meets its contract. The loop's invariant: no slot passed has a clash.
 -- Assumes nothing.
 use mathlib.Core.Path.{sym, _∙_}
 use Prim.Native.Nat.{_≤_, _-_}

@@ -1,4 +1,4 @@
--- `plan::clash::lanes_in` meets its contract. The loop's invariant: the rows passed have their sets.
+-- `searches::clash::lanes_in` meets its contract. The loop's invariant: the rows passed have their sets.
 -- Assumes nothing.
 use mathlib.Core.Path.{_≡_, _∙_}
 use Prim.Native.Nat.{_≤_, _-_}

@@ -1,4 +1,4 @@
--- `plan::clash::least_common` meets its contract. Assumes nothing.
+-- `searches::clash::least_common` meets its contract. Assumes nothing.
 use mathlib.Core.Path.{_∙_}
 use native.Mathlib.Omega.{arith}
 use borrow.Author.Needs.{needs}

@@ -1,4 +1,4 @@
--- `plan::clash::links_in` meets its contract. Assumes nothing.
+-- `searches::clash::links_in` meets its contract. Assumes nothing.
 use borrow.Author.Needs.{needs}
 use Rattle.searches.specs.laws.Lanes.{lane-found, lane-nothing}
 use Rattle.searches.proofs.clash.links_in.Statement.{statement}

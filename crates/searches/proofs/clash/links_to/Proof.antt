@@ -1,4 +1,4 @@
--- `plan::clash::links_to` meets its contract. The loop's invariant: the links are those of the paths passed that count.
+-- `searches::clash::links_to` meets its contract. The loop's invariant: the links are those of the paths passed that count.
 -- Assumes nothing.
 use mathlib.Core.Path.{_≡_, ap, _∙_}
 use Prim.Native.Nat.{ℕ, _≤_, _-_, min}

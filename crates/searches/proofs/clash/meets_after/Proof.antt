@@ -1,4 +1,4 @@
--- `plan::clash::meets_after` meets its contract. The loop's invariant: no row passed has a link of row i's.
+-- `searches::clash::meets_after` meets its contract. The loop's invariant: no row passed has a link of row i's.
 -- Assumes nothing.
 use mathlib.Core.Path.{_≡_, sym, ap, _∙_}
 use mathlib.Core.Bool.{not, false}

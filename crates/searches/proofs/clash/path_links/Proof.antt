@@ -1,4 +1,4 @@
--- `plan::clash::path_links` meets its contract. Assumes nothing.
+-- `searches::clash::path_links` meets its contract. Assumes nothing.
 use mathlib.Core.Path.{ap, _∙_}
 use borrow.Author.Needs.{needs}
 use Rattle.sets.specs.Set.{listed}

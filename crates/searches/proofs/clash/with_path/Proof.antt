@@ -1,4 +1,4 @@
--- `plan::clash::with_path` meets its contract. Assumes nothing.
+-- `searches::clash::with_path` meets its contract. Assumes nothing.
 use mathlib.Core.Path.{sym, ap, _∙_}
 use mathlib.Core.Bool.{_||_}
 use borrow.Author.Needs.{needs}

@@ -1,4 +1,4 @@
--- `plan::overrun::find_overrun` meets its contract. The loop's invariant: no entry of the rows passed runs on.
+-- `searches::overrun::find_overrun` meets its contract. The loop's invariant: no entry of the rows passed runs on.
 -- Assumes nothing.
 use mathlib.Core.Path.{_≡_, ap, subst, _∙_}
 use Prim.Native.Nat.{_≤_, _-_}

@@ -1,4 +1,4 @@
--- `plan::overrun::overrun_of` meets its contract. The loop's invariant: no entry in the slots passed runs on.
+-- `searches::overrun::overrun_of` meets its contract. The loop's invariant: no entry in the slots passed runs on.
 -- Assumes nothing.
 use mathlib.Core.Path.{_≡_, sym, _∙_}
 use mathlib.Core.Bool.{false}

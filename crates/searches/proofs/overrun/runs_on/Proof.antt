@@ -1,4 +1,4 @@
--- `plan::overrun::runs_on` meets its contract. The loop's invariant: no entry stands in the slots passed.
+-- `searches::overrun::runs_on` meets its contract. The loop's invariant: no entry stands in the slots passed.
 -- Assumes nothing.
 use mathlib.Core.Path.{_≡_, sym}
 use mathlib.Core.Bool.{false}

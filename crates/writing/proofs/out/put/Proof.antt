@@ -1,4 +1,4 @@
--- `plan::out::put` meets its contract: bytes that have room are put, and of others nothing is asked. Assumes nothing.
+-- `writing::out::put` meets its contract: bytes that have room are put, and of others nothing is asked. Assumes nothing.
 use borrow.Author.Needs.{needs}
 use Rattle.lists.specs.laws.Puts.{puts-over}
 use Rattle.writing.proofs.out.put.Statement.{statement}

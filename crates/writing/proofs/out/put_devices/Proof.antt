@@ -1,4 +1,4 @@
--- `plan::out::put_devices` meets its contract. The loop's invariant: the fields of the devices below n are put. Assumes nothing.
+-- `writing::out::put_devices` meets its contract. The loop's invariant: the fields of the devices below n are put. Assumes nothing.
 use mathlib.Core.Path.{_∙_}
 use Prim.Native.Nat.{_-_}
 use borrow.Author.Needs.{needs}

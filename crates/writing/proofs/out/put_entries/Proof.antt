@@ -1,4 +1,4 @@
--- `plan::out::put_entries` meets its contract. The loop's invariant: the fields of the first n cells are put. Assumes nothing.
+-- `writing::out::put_entries` meets its contract. The loop's invariant: the fields of the first n cells are put. Assumes nothing.
 use Prim.Native.Nat.{_-_}
 use Rattle.writing.specs.Out.{entryBytes}
 use borrow.Author.Needs.{needs}

@@ -1,4 +1,4 @@
--- `plan::out::put_four` meets its contract. Assumes nothing.
+-- `writing::out::put_four` meets its contract. Assumes nothing.
 use Rattle.plan_rules.specs.Fields.{fourBytes}
 use borrow.Author.Needs.{needs}
 use Rattle.writing.proofs.out.put_four.Statement.{statement}

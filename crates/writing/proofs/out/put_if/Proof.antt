@@ -1,4 +1,4 @@
--- `plan::out::put_if` meets its contract. Assumes nothing.
+-- `writing::out::put_if` meets its contract. Assumes nothing.
 use borrow.Author.Needs.{needs}
 use Rattle.lists.specs.laws.Puts.{puts-none}
 use Rattle.writing.proofs.out.put_if.Statement.{statement}

@@ -1,4 +1,4 @@
--- `plan::out::put_links` meets its contract. The loop's invariant: the fields of the links below n are put. Assumes nothing.
+-- `writing::out::put_links` meets its contract. The loop's invariant: the fields of the links below n are put. Assumes nothing.
 use Prim.Native.Nat.{_-_}
 use Rattle.lists.specs.Search.{below64}
 use Rattle.writing.specs.Out.{linkBytes}

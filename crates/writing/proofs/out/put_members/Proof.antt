@@ -1,4 +1,4 @@
--- `plan::out::put_members` meets its contract. The loop's invariant: the members below t are put. Assumes nothing.
+-- `writing::out::put_members` meets its contract. The loop's invariant: the members below t are put. Assumes nothing.
 use Prim.Native.Nat.{ℕ, _-_}
 use Rattle.lists.specs.Search.{only, below64}
 use Rattle.lists.specs.laws.Order.{flat-only}

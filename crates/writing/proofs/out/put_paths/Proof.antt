@@ -1,4 +1,4 @@
--- `plan::out::put_paths` meets its contract. The loop's invariant: the fields of the first n rows are put. Assumes nothing.
+-- `writing::out::put_paths` meets its contract. The loop's invariant: the fields of the first n rows are put. Assumes nothing.
 use Prim.Native.Nat.{_-_}
 use Rattle.writing.specs.Out.{pathBytes}
 use borrow.Author.Needs.{needs}

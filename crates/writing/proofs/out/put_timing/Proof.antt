@@ -1,4 +1,4 @@
--- `plan::out::put_timing` meets its contract. Assumes nothing.
+-- `writing::out::put_timing` meets its contract. Assumes nothing.
 use Rattle.writing.specs.laws.Parts.{timing-puts}
 use borrow.Author.Needs.{needs}
 use Rattle.writing.proofs.out.put_timing.Statement.{statement}

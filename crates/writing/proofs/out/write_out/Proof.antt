@@ -1,4 +1,4 @@
--- `plan::out::write_out` meets its contract: memory with an interval of 0 holds no plan, and of a plan the five kinds of fields are put one behind
+-- `writing::out::write_out` meets its contract: memory with an interval of 0 holds no plan, and of a plan the five kinds of fields are put one behind
 -- the other. Assumes nothing.
 use borrow.Author.Needs.{needs}
 use Rattle.writing.specs.laws.Parts.{out-puts}
