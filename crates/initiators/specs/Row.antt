@@ -5,10 +5,7 @@ use mathlib.Core.List.{List}
 use mathlib.Core.Option.{Option, none, some}
 use mathlib.Core.Bool.{Bool, true, false, cond}
 use lib.ListN.{length}
-use Rattle.lists.specs.Search.{isIn}
-use Rattle.lists.specs.Place.{Found, without}
-use Rattle.sets.specs.Set.{member}
-use Rattle.plan_rules.specs.Plan.{Entry}
+use Rattle.lists.specs.Place.{without}
 use Rattle.box_rules.specs.State.{Request, Live, Side}
 use Rattle.box_rules.specs.Turn.{Start, isLate}
 use Rattle.initiators.specs.Run.{wordOf}
@@ -31,16 +28,6 @@ liveRequest (some l) = l .request
 unfoldable pub lateOf : Bool → Option Live → Late
 lateOf q none = record { late = false; word = 0 }
 lateOf q (some l) = cond (isLate q l) (record { late = true; word = wordOf (l .request) }) (record { late = false; word = 0 })
-
--- a set of targets and a span tell what an entry permits
-pub record Tells (targets′ span′ : ℕ) (e : Entry) : Type 0 where
-  pub targets : (t : ℕ) → t < 64 → isIn t (e .targets) ≡ member t targets′
-  pub span : e .span ≡ span′
-
--- the place that a search of the line finds, 8 for none
-unfoldable pub placeOf : Option (Found Request) → ℕ
-placeOf none = 8
-placeOf (some f) = f .place
 
 -- the side once the request at place k has left the line
 unfoldable pub leaves : ℕ → Side → Side

@@ -4,7 +4,9 @@ use mathlib.Core.Path.{_≡_}
 use Prim.Native.Nat.{ℕ, _+_, _*_}
 use mathlib.Core.List.{List, [], _∷_, _++_, map, flatMap}
 use mathlib.Core.Option.{Option, none, some}
+use mathlib.Core.Bool.{cond}
 use lib.ListN.{length}
+use lib.Dec.{eqb}
 use Rattle.lists.specs.Search.{upFrom}
 use Rattle.lists.specs.Place.{atPlace}
 use Rattle.lists.specs.Cells.{padded}
@@ -33,8 +35,16 @@ rowOf s = s .next ∷ length (s .line) ∷ padded 8 0 (map wordOf (s .line)) ++ 
 unfoldable pub sideOf : Plan → (ℕ → Side) → ℕ → Side
 sideOf p side r = elim (atPlace r (initiators p)) [ none ↦ idle | some i ↦ side i ]
 
+-- the side of one row changed, the others as they were
+unfoldable pub changed : ℕ → Side → (ℕ → Side) → ℕ → Side
+changed row x s r = cond (eqb r row) x (s r)
+
+-- eight rows with these sides
+unfoldable pub rowsWith : (ℕ → Side) → List ℕ
+rowsWith s = flatMap (λ (r : ℕ). rowOf (s r)) (upFrom 8 0)
+
 unfoldable pub runOf : Plan → (ℕ → Side) → List ℕ
-runOf p side = flatMap (λ (r : ℕ). rowOf (sideOf p side r)) (upFrom 8 0)
+runOf p side = rowsWith (sideOf p side)
 
 -- the last accepted time-code: 0 for none, else its byte and 1
 unfoldable pub lastOf : Option ℕ → ℕ
@@ -42,6 +52,6 @@ lastOf none = 0
 lastOf (some byte) = byte + 1
 
 -- run memory holds the box
-pub record Runs (b : Box) (run′ : List ℕ) (last′ : ℕ) : Type 0 where
+pub record Runs (b : Box) (run′ last′ : List ℕ) : Type 0 where
   pub run : run′ ≡ runOf (thePlan b) (b .side)
-  pub last : last′ ≡ lastOf (b .last)
+  pub last : last′ ≡ lastOf (b .last) ∷ []

@@ -11,9 +11,11 @@ ghost use Rattle.plan_rules.specs.Plan.{Plan, Entry};
 ghost use Rattle.box_rules.specs.State.{Side, Live, Request};
 ghost use Rattle.box_rules.specs.Turn.{join, finish, aged, isLate, allows, starting, begun};
 ghost use Rattle.box_rules.specs.laws.Fit.{FitSide, FitLive, FitRequest};
+ghost use Rattle.plan_view.specs.View.{placeOr, Tells};
 ghost use Rattle.initiators.specs.Run.{rowOf, wordOf, liveTime};
-ghost use Rattle.initiators.specs.Row.{IsRow, HasRoom, liveRequest, lateOf, Tells, placeOf, leaves, startedOf};
+ghost use Rattle.initiators.specs.Row.{IsRow, HasRoom, liveRequest, lateOf, leaves, startedOf};
 use crate::word::word_of;
+use plan_view::entry::permits;
 
 // The transaction that is late, if any.
 pub struct Late {
@@ -136,17 +138,19 @@ pub fn age_row(row: &mut [u64], in_sequence: bool) -> Late
 fn permits_word(word: u64, targets: u64, span: u8) -> bool
     ensures { λ b. ⌜ ((p : Plan) (e : Entry) (r : Request) → Tells targets span e → FitRequest r → word ≡ wordOf r → b ≡ allows p e r) ⌝ }
 {
-    if sets::has(targets, (word % 256) as u8) {
-        return word / 65536 % 65536 <= 256 * span as u64;
-    }
-    false
+    permits(
+        targets,
+        span,
+        (word % 256) as u8,
+        (word / 65536 % 65536) as u16,
+    )
 }
 
 // The place of the oldest waiting request that the entry permits, 8 for none.
 pub fn find_row(row: &[u64], targets: u64, span: u8) -> usize
     requires { ⌜ IsRow (now row) ⌝ }
     ensures { λ r. ⌜ (r < 8 → r < getD (now (row .entry)) 1 0) ⌝ }
-    ensures { λ r. ⌜ ((s : Side) → FitSide s → now (row .entry) ≡ rowOf s → (p : Plan) (e : Entry) → Tells targets span e → r ≡ placeOf (first (allows p e) (s .line))) ⌝ }
+    ensures { λ r. ⌜ ((s : Side) → FitSide s → now (row .entry) ≡ rowOf s → (p : Plan) (e : Entry) → Tells targets span e → r ≡ placeOr 8 (first (allows p e) (s .line))) ⌝ }
 {
     let n = row[1] as usize;
     let mut i = 0;

@@ -4,6 +4,7 @@ ghost use mathlib.Core.List.{[], _∷_, _++_};
 ghost use Prim.Native.Nat.{_+_, _*_, _≤_};
 ghost use lib.ListN.{length, drop};
 ghost use Rattle.lists.specs.Stores.{Put};
+ghost use Rattle.lists.specs.Puts.{Puts};
 ghost use Rattle.plan_rules.specs.Print.{decimal, spaced, numbers, line};
 use plan_rules::Verdict;
 
@@ -18,6 +19,20 @@ pub fn put_bytes(out: &mut [u8], at: usize, s: &[u8]) -> usize
         i += 1;
     }
     at + i
+}
+
+// The same where they have room, and nothing otherwise.
+pub fn put(out: &mut [u8], at: usize, s: &[u8]) -> usize
+    ensures { λ r. ⌜ Puts (now (out .entry)) at (now (s .entry)) (now (out .exit)) r ⌝ }
+{
+    let room = out.len();
+    if room < at {
+        return at;
+    }
+    if room - at < s.len() {
+        return at;
+    }
+    put_bytes(out, at, s)
 }
 
 // Puts the decimal digits of n at a place, and answers the next one.

@@ -24,6 +24,7 @@ pub mod Members
 pub mod Sweep
 pub mod Padded
 pub mod Chunks
+pub mod Blocks
 pub mod Insert
 pub mod Moved
 pub mod Puts

@@ -1,4 +1,6 @@
 pub mod SameMemory
+pub mod InRows
+pub mod PathRows
 pub mod ToldPlan
 pub mod ToldEntries
 pub mod OneMemory

@@ -1,7 +1,7 @@
 // The field reader: one field at an offset of the file, its head judged, its content handed on as a part of the file's own bytes.
 ghost use mathlib.Core.Path.{_≡_};
 ghost use mathlib.Core.Bool.{_&&_};
-ghost use Prim.Native.Nat.{_+_, _*_, _≤_};
+ghost use Prim.Native.Nat.{_+_, _*_, _≤_, _<_};
 ghost use lib.Dec.{leb};
 ghost use lib.ListN.{length, take, drop};
 ghost use Rattle.plan_rules.specs.Plan.{two, four};
@@ -106,6 +106,13 @@ pub fn head_at(file: &[u8], at: usize, before: u8) -> Head
         return Head::Fault { number: 5 };
     }
     Head::Field { tag, size }
+}
+
+// A byte as a count.
+pub fn wide(x: u8) -> usize
+    ensures { λ r. ⌜ (r ≡ x) × (r < 256) ⌝ }
+{
+    x as usize
 }
 
 // "A field's content is handed on as a part of the file's own bytes": size bytes from start on, as many of them as there are.

@@ -13,27 +13,14 @@ ghost use Rattle.plan_rules.specs.Fields.{fourBytes};
 ghost use Rattle.plan_rules.specs.Copy.{copyAnswer, copied};
 ghost use Rattle.plan_memory.specs.Held.{Held};
 ghost use Rattle.writing.specs.Out.{deviceBytes, linkBytes, pathBytes, rises, entryBytes, timingBytes};
-use line::print::put_bytes;
+use line::print::put;
 use plan_rules::Copied;
 use reader::field::part;
+use reader::field::wide;
 use sets::has;
 use sets::size;
 
-// Puts the bytes of s at a place where they have room, and answers the next place.
-fn put(out: &mut [u8], at: usize, s: &[u8]) -> usize
-    ensures { λ r. ⌜ Puts (now (out .entry)) at (now (s .entry)) (now (out .exit)) r ⌝ }
-{
-    let room = out.len();
-    if room < at {
-        return at;
-    }
-    if room - at < s.len() {
-        return at;
-    }
-    put_bytes(out, at, s)
-}
-
-// The same where a test holds.
+// Puts the bytes of s at a place where a test holds.
 fn put_if(out: &mut [u8], at: usize, holds: bool, s: &[u8]) -> usize
     ensures { λ r. ⌜ Puts (now (out .entry)) at (cond holds (now (s .entry)) []) (now (out .exit)) r ⌝ }
 {
@@ -82,13 +69,6 @@ fn put_links(out: &mut [u8], at: usize, links: u64, ends: &[u8; 128]) -> usize
         n += 1;
     }
     k
-}
-
-// A byte as a count.
-fn wide(x: u8) -> usize
-    ensures { λ r. ⌜ (r ≡ x) × (r < 256) ⌝ }
-{
-    x as usize
 }
 
 // The path of row n, where it has a link.

@@ -14,8 +14,8 @@ use Rattle.plan_rules.specs.Plan.{Plan, Entry}
 use Rattle.box_rules.specs.State.{Request, Side}
 use Rattle.box_rules.specs.Turn.{allows}
 use Rattle.box_rules.specs.laws.Fit.{FitSide, FitRequest}
+use Rattle.plan_view.specs.View.{placeOr, Tells}
 use Rattle.initiators.specs.Run.{rowOf, wordOf}
-use Rattle.initiators.specs.Row.{Tells, placeOf}
 use Rattle.initiators.proofs.row.Rows.{count-at, place-at}
 
 -- none before place i is permitted
@@ -28,7 +28,7 @@ Says word targets span b = (p : Plan) (e : Entry) (r : Request) → Tells target
 
 abbrev pub Finds : List ℕ → ℕ → ℕ → ℕ → Type 0
 Finds row targets span i =
-    (s : Side) → FitSide s → row ≡ rowOf s → (p : Plan) (e : Entry) → Tells targets span e → i ≡ placeOf (first (allows p e) (s .line))
+    (s : Side) → FitSide s → row ≡ rowOf s → (p : Plan) (e : Entry) → Tells targets span e → i ≡ placeOr 8 (first (allows p e) (s .line))
 
 module _ (row : List ℕ) (targets span : ℕ) where
   pub seek-begin : Sought row targets span 0
@@ -43,12 +43,12 @@ module _ (row : List ℕ) (targets span : ℕ) where
         here z = sym (says p e r t (f .line r (at-member (s .line) k r at)) (rw (← z) (place-at s f row is k r at))) ∙ no′
 
     pub seek-found : (b : Bool) → Says (getD row (i + 2) 0) targets span b → b ≡ true → i < getD row 1 0 → Finds row targets span i
-    unfolding placeOf
+    unfolding placeOr
     seek-found b says yes′ l s f is p e t =
         let (r, at) = placed i (s .line) (omega (arith, count-at s f row is)) in
         let y = sym (says p e r t (f .line r (at-member (s .line) i r at)) (place-at s f row is i r at)) ∙ yes′ in
         rw (first-at (allows p e) (s .line) i r (before s f is p e t) at y)
 
     pub seek-none : ((s : Side) → FitSide s → row ≡ rowOf s → length (s .line) ≤ i) → Finds row targets span 8
-    unfolding placeOf
+    unfolding placeOr
     seek-none all s f is p e t = rw (first-none (allows p e) (s .line) i (before s f is p e t) (all s f is))

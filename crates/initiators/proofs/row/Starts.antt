@@ -14,8 +14,9 @@ use Rattle.plan_rules.specs.Plan.{Plan, Entry}
 use Rattle.box_rules.specs.State.{Request, Side}
 use Rattle.box_rules.specs.Turn.{allows, startAt, starting, fresh, begun}
 use Rattle.box_rules.specs.laws.Fit.{FitSide}
+use Rattle.plan_view.specs.View.{placeOr}
 use Rattle.initiators.specs.Run.{wordOf, liveWord, liveTime, rowOf}
-use Rattle.initiators.specs.Row.{placeOf, leaves, startedOf}
+use Rattle.initiators.specs.Row.{leaves, startedOf}
 use Rattle.initiators.specs.declared.row.Started.{Started}
 use Rattle.initiators.proofs.row.Rows.{place-at, live-set}
 
@@ -41,7 +42,7 @@ module _ (s : Side) (f : FitSide s) (row : List ℕ) (is : row ≡ rowOf s) (p :
   unfolding starting
   starts-live h = starts-none (rw (h, starting))
 
-  module _ (free : isSome (s .live) ≡ false) (k : ℕ) (at : k ≡ placeOf (first (allows p e) (s .line))) where
+  module _ (free : isSome (s .live) ≡ false) (k : ℕ) (at : k ≡ placeOr 8 (first (allows p e) (s .line))) where
     sought : starting p (some e) s ≡ startAt e (first (allows p e) (s .line))
     unfolding starting
     sought = rw (free, starting)
@@ -51,16 +52,16 @@ module _ (s : Side) (f : FitSide s) (row : List ℕ) (is : row ≡ rowOf s) (p :
 
     -- what is found stands within the line, so that 8 tells none
     none-found : 8 ≤ k → (o : Option (Found Request)) → first (allows p e) (s .line) ≡ o → o ≡ none
-    unfolding placeOf
+    unfolding placeOr
     none-found h none q = refl
     none-found h (some g) q =
-        let z : k ≡ g .place = at ∙ ap placeOf q in
+        let z : k ≡ g .place = at ∙ ap (placeOr 8) q in
         absurd (omega (arith, f .few, at-below (g .place) (s .line) (g .what) (stands g q)))
 
     one-found : k < 8 → (o : Option (Found Request)) → first (allows p e) (s .line) ≡ o → (g : Found Request) × (o ≡ some g) × (k ≡ g .place)
-    unfolding placeOf
-    one-found h none q = let z : k ≡ 8 = at ∙ ap placeOf q in absurd (omega arith)
-    one-found h (some g) q = (g, refl, at ∙ ap placeOf q)
+    unfolding placeOr
+    one-found h none q = let z : k ≡ 8 = at ∙ ap (placeOr 8) q in absurd (omega arith)
+    one-found h (some g) q = (g, refl, at ∙ ap (placeOr 8) q)
 
     pub starts-nothing : 8 ≤ k → Starts s p e (record { started = false; word = 0 }) row
     unfolding startAt

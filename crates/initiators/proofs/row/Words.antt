@@ -1,20 +1,19 @@
 -- A request's word comes apart again, and so does the live transaction's time: lateness, and what an entry permits, told from them.
 use mathlib.Core.Path.{_≡_, refl}
 use mathlib.Core.Option.{Option, none, some}
-use mathlib.Core.Bool.{Bool, true, false, not, _&&_}
+use mathlib.Core.Bool.{Bool, true, false, not}
 use Prim.Native.Nat.{ℕ, _+_, _*_, _/_, _%_, _^_}
 use native.Mathlib.Omega.{arith}
 use lib.Dec.{eqb, leb}
 use borrow.Author.Tests.{ne-eqb}
 use Rattle.lists.specs.Search.{isSome}
-use Rattle.sets.specs.Set.{member}
 use Rattle.plan_rules.specs.Plan.{Plan, Entry}
-use Rattle.plan_rules.specs.Meaning.{permits, fits}
+use Rattle.plan_rules.specs.Meaning.{permits}
 use Rattle.box_rules.specs.State.{Request, Live}
 use Rattle.box_rules.specs.Turn.{isLate, older, survives, allows}
 use Rattle.box_rules.specs.laws.Fit.{FitRequest, FitLive}
 use Rattle.initiators.specs.Run.{wordOf, liveWord, liveTime}
-use Rattle.initiators.specs.Row.{liveRequest, lateOf, Tells}
+use Rattle.initiators.specs.Row.{liveRequest, lateOf}
 
 -- the parts of a word are the request's
 pub record Apart (w : ℕ) (r : Request) : Type 0 where
@@ -71,15 +70,6 @@ module _ (q : Bool) (o : Option Live) (l : Live) (e : o ≡ some l) where
   young-told h = (rw (e, h), rw (e, h))
 
 -- what an entry permits, told from the request's word
-module _ (p : Plan) (e : Entry) (r : Request) (targets span word : ℕ) (t : Tells targets span e) (f : FitRequest r) (is : word ≡ wordOf r) where
-  permitted : allows p e r ≡ member (word % 256) targets && leb (word / 65_536 % 65_536) (256 * span)
-  unfolding allows permits fits
-  permitted =
-      let a = apart r f in
-      rw (is, a .target, a .length, t .targets (r .target) (f .target), t .span)
-
-  pub permits-if : member (word % 256) targets ≡ true → leb (word / 65_536 % 65_536) (256 * span) ≡ allows p e r
-  permits-if h = rw (permitted, h)
-
-  pub permits-not : member (word % 256) targets ≡ false → false ≡ allows p e r
-  permits-not h = rw (permitted, h)
+pub allows-word : (p : Plan) (e : Entry) (r : Request) → FitRequest r → (word : ℕ) → word ≡ wordOf r → permits p e (word % 256) (word / 65_536 % 65_536) ≡ allows p e r
+unfolding allows
+allows-word p e r f word is = let a = apart r f in rw (is, a .target, a .length)

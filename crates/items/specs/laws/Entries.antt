@@ -92,11 +92,11 @@ module _ (m : Lent) (x : Entry) (r : ℕ) (s : Sought m x r) (size : ℕ) (p : P
   counted = initiators-told size p (m .numbers) (held .numbers)
 
   row : r < rowsIn m → atPlace r (initiators p) ≡ some (x .initiator)
-  row h = row-place p (held .fair) (m .rows) (held .rows) (nth (m .numbers) 2) counted (x .initiator) r (s .found) (omega arith)
+  row h = row-place p (held .fair .lists .paths .eight) (m .rows) (held .rows) (nth (m .numbers) 2) counted (x .initiator) r (s .found) (omega arith)
 
   no-row : rowsIn m ≤ r → isInitiator p (x .initiator) ≡ false
   no-row h =
-      row-none p (held .fair) (m .rows) (held .rows) (nth (m .numbers) 2) counted (x .initiator) r (s .found) (range .initiator)
+      row-none p (held .fair .lists .paths .eight) (m .rows) (held .rows) (nth (m .numbers) 2) counted (x .initiator) r (s .found) (range .initiator)
       (omega (arith, counted, held .fair .lists .paths .eight))
 
   -- an entry stands in the row

@@ -15,13 +15,13 @@ use Rattle.lists.specs.Place.{atPlace}
 use Rattle.lists.specs.laws.Bools.{not-both}
 use Rattle.lists.specs.laws.Numbers.{Finds, first-from}
 use Rattle.lists.specs.laws.Cells.{cell-at}
-use Rattle.lists.specs.laws.At.{member-at, place-at, place-in, no-place, padded-at, place-once}
+use Rattle.lists.specs.laws.At.{member-at, place-at, place-in, padded-at, place-once}
 use Rattle.sets.specs.Set.{packed}
 use Rattle.plan_rules.specs.Plan.{nth, Plan}
 use Rattle.plan_rules.specs.Meaning.{isInitiator, initiators, hasPath}
 use Rattle.plan_rules.specs.laws.Initiators.{initiator-in, in-initiators, initiators-once}
-use Rattle.plan_rules.specs.laws.Fair.{Fair}
-use Rattle.plan_memory.specs.Memory.{rowsOf, ofRow, reachOf}
+use Rattle.plan_memory.specs.Memory.{rowsOf, reachOf}
+use Rattle.plan_memory.specs.laws.InRows.{of-row}
 
 -- row k is that of i
 abbrev pub isRow : List ℕ → ℕ → ℕ → Bool
@@ -35,21 +35,12 @@ row-most rows count i r found = omega (arith, found, first-from (min count 8) 0 
 pub row-once : (p : Plan) (r s i : ℕ) → atPlace r (initiators p) ≡ some i → atPlace s (initiators p) ≡ some i → r ≡ s
 row-once p r s i = place-once (initiators p) r s i (initiators-once p)
 
--- what an array in rows has in the row of i, and behind the last row
-pub of-row : (p : Plan) (r i : ℕ) (f : ℕ → ℕ) → atPlace r (initiators p) ≡ some i → ofRow p r f ≡ f i
-unfolding ofRow
-of-row p r i f e = rw (e, ofRow)
-
-pub of-no-row : (p : Plan) (r : ℕ) (f : ℕ → ℕ) → length (initiators p) ≤ r → ofRow p r f ≡ 0
-unfolding ofRow
-of-no-row p r f h = rw (no-place (initiators p) r h, ofRow)
-
 pub reach-at : (p : Plan) (reach : List ℕ) → reach ≡ reachOf p → (r i : ℕ) → atPlace r (initiators p) ≡ some i → r < 8 → nth reach r ≡ packed (hasPath p i)
 unfolding reachOf
 reach-at p reach held r i row short = rw held (cell-at 8 _ r 0 short ∙ of-row p r i _ row)
 
 -- r is what the search through the rows finds for i
-module _ (p : Plan) (fair : Fair p) (rows : List ℕ) (held : rows ≡ rowsOf p) (count : ℕ) (counted : count ≡ length (initiators p)) (i r : ℕ)
+module _ (p : Plan) (eight : length (initiators p) ≤ 8) (rows : List ℕ) (held : rows ≡ rowsOf p) (count : ℕ) (counted : count ≡ length (initiators p)) (i r : ℕ)
     (found : r ≡ firstFrom (min count 8) 0 (isRow rows i)) where
   finds : Finds (min count 8) 0 (isRow rows i) r
   finds = rw found (first-from (min count 8) 0 (isRow rows i))
@@ -60,7 +51,7 @@ module _ (p : Plan) (fair : Fair p) (rows : List ℕ) (held : rows ≡ rowsOf p)
   row-at k h = rw held (padded-at 8 0 (initiators p) k 0 (omega arith))
 
   pub row-within : r < count → r < 8
-  row-within h = omega (arith, fair .lists .paths .eight)
+  row-within h = omega arith
 
   -- below the count it is the row of i, and i an initiator
   pub row-place : r < count → atPlace r (initiators p) ≡ some i

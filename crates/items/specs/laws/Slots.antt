@@ -13,13 +13,14 @@ use Rattle.lists.specs.Place.{atPlace}
 use Rattle.lists.specs.Cells.{cells}
 use Rattle.lists.specs.laws.Bools.{both-true, true-both}
 use Rattle.lists.specs.laws.Search.{any-elim, any-intro, find-some, find-has}
-use Rattle.lists.specs.laws.Cells.{cell-at, cells-set}
+use Rattle.lists.specs.laws.Cells.{cells-set}
 use Rattle.lists.specs.laws.More.{find-more, find-same}
 use Rattle.sets.specs.Set.{packed}
 use Rattle.plan_rules.specs.Plan.{nth, Entry, Plan, entry, grow}
 use Rattle.plan_rules.specs.Meaning.{isInitiator, initiators, standsAt, entryAt}
 use Rattle.plan_memory.specs.Memory.{ofRow, spanOf, spansOf, aimOf, aimsOf}
-use Rattle.items.specs.laws.Rows.{of-row, row-once}
+use Rattle.plan_memory.specs.laws.InRows.{of-row, slot-cell}
+use Rattle.items.specs.laws.Rows.{row-once}
 
 -- the array that has what g says of the entry at each row and slot
 abbrev slots : (Option Entry → ℕ) → Plan → List ℕ
@@ -27,10 +28,7 @@ slots g p = cells 512 (λ (n : ℕ). ofRow p (n / 64) (λ (i : ℕ). g (entryAt 
 
 module _ (g : Option Entry → ℕ) (p : Plan) (r i : ℕ) (row : atPlace r (initiators p) ≡ some i) (short : r < 8) where
   slot-at : (v : ℕ) → v < 64 → nth (slots g p) (r * 64 + v) ≡ g (entryAt (p .entries) i v)
-  slot-at v h =
-      let a : (r * 64 + v) / 64 ≡ r = omega arith in
-      let b : (r * 64 + v) % 64 ≡ v = omega arith in
-      cell-at 512 _ (r * 64 + v) 0 (omega arith) ∙ rw (a, b) (of-row p r i _ row)
+  slot-at v h = slot-cell p r v short h g ∙ of-row p r i _ row
 
   module _ (e : Entry) (own : e .initiator ≡ i) (below : e .slot < 64) (free : any (standsAt i (e .slot)) (p .entries) ≡ false) where
     -- the cell of the entry

@@ -25,17 +25,13 @@ use Rattle.plan_rules.specs.laws.InRange.{entry-ranged}
 use Rattle.plan_rules.specs.laws.Initiators.{in-initiators}
 use Rattle.plan_rules.specs.laws.Entries
 use Rattle.plan_memory.specs.Memory.{ofRow, spanOf, spansOf, aimOf, aimsOf}
+use Rattle.plan_memory.specs.laws.InRows.{of-row}
 use Rattle.plan_memory.specs.laws.ToldPlan.{packed-told}
 
 -- the initiator of an entry has a row: some target of the entry has a path from it
 pub entry-initiator : (p : Plan) → Good p → (e : Entry) → List·Memᴰ e (p .entries) → List·Memᴰ (e .initiator) (initiators p)
 entry-initiator p g e m =
     in-initiators p (e .initiator) ((entry-ranged p (g .ranges) e m) .initiator) (Entries.entry-initiator p (g .lengths) (g .ranges) (g .reached) e m)
-
--- the row of an initiator gives what there is for it
-row-of : (p : Plan) (r i : ℕ) (f : ℕ → ℕ) → atPlace r (initiators p) ≡ some i → ofRow p r f ≡ f i
-unfolding ofRow
-row-of p r i f e = rw (e, ofRow)
 
 -- what is read off the entry of an initiator at a slot
 module _ (p q : Plan) (e : initiators p ≡ initiators q) (eight : length (initiators p) ≤ 8) where
@@ -47,7 +43,7 @@ module _ (p q : Plan) (e : initiators p ≡ initiators q) (eight : length (initi
       let a : (64 * r + v) / 64 ≡ r = omega arith in
       let b : (64 * r + v) % 64 ≡ v = omega arith in
       let c : ofRow p r (λ (i : ℕ). g (entryAt (p .entries) i v)) ≡ ofRow q r (λ (i : ℕ). g (entryAt (q .entries) i v)) = rw (a, b) at (cells-told 512 _ _ h (64 * r + v) (omega arith)) in
-      sym (row-of p r i _ f) ∙ c ∙ row-of q r i _ (ap (atPlace r) (sym e) ∙ f)
+      sym (of-row p r i _ f) ∙ c ∙ of-row q r i _ (ap (atPlace r) (sym e) ∙ f)
 
   -- each entry of p is one of q, up to the order of its targets
   pub told-entries : Good p → spansOf p ≡ spansOf q → aimsOf p ≡ aimsOf q → Among withRising (p .entries) (q .entries)

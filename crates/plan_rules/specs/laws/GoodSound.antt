@@ -6,11 +6,15 @@ use mathlib.Core.Bool.{Bool, true, false}
 use Prim.Native.Nat.{ℕ, _<_}
 use native.Mathlib.Omega.{arith}
 use native.Mathlib.Decide.{decLt}
+use lib.Dec.{eqb}
+use borrow.Author.Tests.{eqb-true}
 use Rattle.lists.specs.laws.Bools.{true-both}
-use Rattle.plan_rules.specs.Plan.{Entry, Plan}
-use Rattle.plan_rules.specs.Meaning.{mayUse, runsInto}
+use Rattle.lists.specs.laws.Search.{any-elim}
+use Rattle.plan_rules.specs.Plan.{Route, Entry, Plan}
+use Rattle.plan_rules.specs.Meaning.{isInitiator, mayUse, runsInto}
 use Rattle.plan_rules.specs.Good.{Good}
 use Rattle.plan_rules.specs.laws.Ranges.{EntryRange}
+use Rattle.plan_rules.specs.laws.InRange.{path-ranged}
 use Rattle.plan_rules.specs.laws.Entries.{entry-once, entry-ranges, entry-initiator}
 use Rattle.plan_rules.specs.laws.Overruns.{runs-into, overrun-none}
 use Rattle.plan_rules.specs.laws.Clashes.{clash-test, clash-none}
@@ -19,6 +23,13 @@ use Rattle.plan_rules.specs.laws.Sound.{Sound}
 module _ (p : Plan) (good : Good p) where
   pub good-entry : (e : Entry) → List·Memᴰ e (p .entries) → EntryRange e
   good-entry = entry-ranges p (good .lengths) (good .ranges) (good .reached)
+
+  -- an initiator stands first in a path
+  good-initiator : (i : ℕ) → isInitiator p i ≡ true → i < 64
+  unfolding isInitiator
+  good-initiator i h =
+      let (x, m, e) = any-elim (λ (x : Route). eqb i (x .initiator)) (p .paths) h in
+      omega (arith, eqb-true i (x .initiator) e, (path-ranged p (good .ranges) x m) .initiator)
 
   pub good-sound : Sound p
   good-sound = record {
@@ -32,6 +43,7 @@ module _ (p : Plan) (good : Good p) where
     no-overrun = λ e f m n. apart-from e f m n (runsInto e f) refl;
     no-clash = λ s i j l hs d mi mj. apart s i j l hs d mi mj (decLt i j);
     eight = good .eight;
+    small = good-initiator;
   }
     where
       -- an entry that runs into another is an overrun

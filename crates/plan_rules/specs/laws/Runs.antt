@@ -81,4 +81,5 @@ sound-blank = record {
   no-overrun = λ e f m. absurd (List·Memᴰ·not-nil m);
   no-clash = λ s i j l h d u. not-both u refl;
   eight = rw (keep-none (isInitiator blank) below64 (λ i m. refl)) (omega arith);
+  small = λ i h. not-both h refl;
 }

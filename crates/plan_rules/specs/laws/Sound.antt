@@ -19,3 +19,4 @@ pub record Sound (p : Plan) : Type 0 where
   pub no-overrun : (e f : Entry) → List·Memᴰ e (p .entries) → List·Memᴰ f (p .entries) → runsInto e f ≡ false
   pub no-clash : (s i j l : ℕ) → s < 64 → i ≢ j → mayUse p (p .entries) s i l ≡ true → mayUse p (p .entries) s j l ≡ true → ⊥
   pub eight : length (initiators p) ≤ 8
+  pub small : (i : ℕ) → isInitiator p i ≡ true → i < 64

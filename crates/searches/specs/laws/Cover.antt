@@ -20,7 +20,8 @@ use Rattle.plan_rules.specs.laws.Overruns.{cover-once}
 use Rattle.plan_rules.specs.laws.Fair.{Fair}
 use Rattle.plan_memory.specs.Memory.{spansOf}
 use Rattle.searches.specs.Searches.{cellAt, coversFrom, placeBack, coverPlace}
-use Rattle.searches.specs.laws.Entries.{RowOf, of-no-row, span-cell, row-small, fair-entry, entry-span, cell-entry}
+use Rattle.plan_memory.specs.laws.InRows.{of-no-row, span-cell}
+use Rattle.searches.specs.laws.Entries.{RowOf, row-small, fair-entry, entry-span, cell-entry}
 
 pub cover-not : (spans : List ℕ) (row slot back : ℕ) → cellAt spans row ((slot + 64 - back) % 64) ≤ back → coversFrom spans row slot back ≡ false
 unfolding coversFrom

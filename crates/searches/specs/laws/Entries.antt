@@ -2,15 +2,13 @@
 use mathlib.Core.Path.{_≡_, refl, sym, ap, _∙_}
 use mathlib.Core.List.{List, List·Memᴰ}
 use mathlib.Core.Option.{Option, none, some}
-use Prim.Native.Nat.{ℕ, _+_, _*_, _/_, _%_, _<_}
+use Prim.Native.Nat.{ℕ, _<_}
 use native.Mathlib.Omega.{arith}
 use lib.ListN.{length, getD}
 use Rattle.lists.specs.Search.{isIn, below64}
 use Rattle.lists.specs.Place.{atPlace}
 use Rattle.lists.specs.Order.{Rising}
-use Rattle.lists.specs.Cells.{cells}
 use Rattle.lists.specs.laws.Search.{find-some, find-has}
-use Rattle.lists.specs.laws.Cells.{cell-at}
 use Rattle.lists.specs.laws.Rising.{rising-kept}
 use Rattle.lists.specs.laws.Members.{member-at, at-within, padded-at}
 use Rattle.sets.specs.Set.{packed}
@@ -22,7 +20,8 @@ use Rattle.plan_rules.specs.laws.Initiators.{in-initiators}
 use Rattle.plan_rules.specs.laws.Entries.{entry-initiator, entry-once}
 use Rattle.plan_rules.specs.laws.Overruns.{stands-at}
 use Rattle.plan_rules.specs.laws.Fair.{Fair}
-use Rattle.plan_memory.specs.Memory.{ofRow, rowsOf, spanOf, spansOf, aimOf, aimsOf, numbersWith}
+use Rattle.plan_memory.specs.Memory.{rowsOf, spanOf, spansOf, aimOf, aimsOf, numbersWith}
+use Rattle.plan_memory.specs.laws.InRows.{of-row, span-cell, aim-cell}
 use Rattle.searches.specs.Searches.{cellAt}
 
 -- row r is that of initiator i
@@ -40,31 +39,6 @@ row-reads p r i h = padded-at 8 0 (initiators p) r i h
 pub rows-counted : (p : Plan) (size : ℕ) (numbers : List ℕ) → numbers ≡ numbersWith size p → getD numbers 2 0 ≡ length (initiators p)
 unfolding numbersWith
 rows-counted p size numbers e = ap (λ (m : List ℕ). getD m 2 0) e
-
--- what f gives for the row's initiator
-pub of-row : (p : Plan) (r i : ℕ) (f : ℕ → ℕ) → RowOf p r i → ofRow p r f ≡ f i
-unfolding ofRow
-of-row p r i f h = rw (h, ofRow)
-
-pub of-no-row : (p : Plan) (r : ℕ) (f : ℕ → ℕ) → atPlace r (initiators p) ≡ none → ofRow p r f ≡ 0
-unfolding ofRow
-of-no-row p r f h = rw (h, ofRow)
-
--- the cells of a row
-module _ (p : Plan) (r v : ℕ) (row : r < 8) (slot : v < 64) where
-  cell : (f : ℕ → ℕ → ℕ) → cellAt (cells 512 (λ (n : ℕ). ofRow p (n / 64) (λ (i : ℕ). f i (n % 64)))) r v ≡ ofRow p r (λ (i : ℕ). f i v)
-  cell f =
-      let a : (r * 64 + v) / 64 ≡ r = omega arith in
-      let b : (r * 64 + v) % 64 ≡ v = omega arith in
-      cell-at 512 (λ (n : ℕ). ofRow p (n / 64) (λ (i : ℕ). f i (n % 64))) (r * 64 + v) 0 (omega arith) ∙ rw (a, b)
-
-  pub span-cell : cellAt (spansOf p) r v ≡ ofRow p r (λ (i : ℕ). spanOf (entryAt (p .entries) i v))
-  unfolding spansOf
-  span-cell = cell (λ i w. spanOf (entryAt (p .entries) i w))
-
-  pub aim-cell : cellAt (aimsOf p) r v ≡ ofRow p r (λ (i : ℕ). aimOf (entryAt (p .entries) i v))
-  unfolding aimsOf
-  aim-cell = cell (λ i w. aimOf (entryAt (p .entries) i w))
 
 -- the entry of initiator i at slot v
 pub record At (p : Plan) (i v : ℕ) (e : Entry) : Type 0 where

@@ -24,7 +24,8 @@ use Rattle.plan_rules.specs.Meaning.{initiators, mayUse}
 use Rattle.plan_rules.specs.laws.Clashes.{May, may-use}
 use Rattle.plan_memory.specs.Memory.{rowsOf, pathsOf, spansOf, aimsOf, numbersWith}
 use Rattle.searches.specs.Searches.{coverPlace, leadsOver, laneOf, lanesOf, Searched}
-use Rattle.searches.specs.laws.Entries.{RowOf, row-reads, of-row, of-no-row, fair-entry, entry-aim}
+use Rattle.plan_memory.specs.laws.InRows.{of-row, of-no-row}
+use Rattle.searches.specs.laws.Entries.{RowOf, row-reads, fair-entry, entry-aim}
 use Rattle.searches.specs.laws.Paths.{links-used}
 use Rattle.searches.specs.laws.Cover.{Covering, found-covers, none-covers, covers-once, no-row-covers}
 

@@ -11,7 +11,6 @@ use Rattle.lists.specs.Search.{keep, isIn, upFrom, below64}
 use Rattle.lists.specs.Place.{atPlace}
 use Rattle.lists.specs.laws.Bools.{both-true, not-both}
 use Rattle.lists.specs.laws.Search.{find-some, keep-none, keep-same, below64-range}
-use Rattle.lists.specs.laws.Cells.{cell-at}
 use Rattle.lists.specs.laws.Filled.{at-padded}
 use Rattle.lists.specs.laws.Order.{flat-same, one-pair}
 use Rattle.lists.specs.laws.Kept.{Kept, nothing, one, kept}
@@ -26,6 +25,7 @@ use Rattle.plan_rules.specs.Good.{Good, sameEntryPlace}
 use Rattle.plan_rules.specs.laws.GoodSound.{good-entry}
 use Rattle.plan_rules.specs.laws.Entries.{entry-initiator}
 use Rattle.plan_memory.specs.Memory.{rowsOf, ofRow, spanOf, spansOf, aimOf, aimsOf}
+use Rattle.plan_memory.specs.laws.InRows.{span-cell, aim-cell}
 use Rattle.writing.specs.Out.{rises, entryBytes}
 
 -- the field of an entry, its targets rising
@@ -49,18 +49,10 @@ module _ (p : Plan) where
   cell = entryBytes (rowsOf p) (spansOf p) (aimsOf p)
 
   span-at : (r v : ℕ) → r < 8 → v < 64 → nth (spansOf p) (64 * r + v) ≡ ofRow p r (λ (i : ℕ). spanOf (entryAt (p .entries) i v))
-  unfolding spansOf
-  span-at r v h g =
-      let d : (64 * r + v) / 64 ≡ r = omega arith in
-      let m : (64 * r + v) % 64 ≡ v = omega arith in
-      cell-at 512 _ (64 * r + v) 0 (omega arith) ∙ rw (d, m)
+  span-at r v h g = let e : 64 * r + v ≡ r * 64 + v = omega arith in rw e (span-cell p r v h g)
 
   aim-at : (r v : ℕ) → r < 8 → v < 64 → nth (aimsOf p) (64 * r + v) ≡ ofRow p r (λ (i : ℕ). aimOf (entryAt (p .entries) i v))
-  unfolding aimsOf
-  aim-at r v h g =
-      let d : (64 * r + v) / 64 ≡ r = omega arith in
-      let m : (64 * r + v) % 64 ≡ v = omega arith in
-      cell-at 512 _ (64 * r + v) 0 (omega arith) ∙ rw (d, m)
+  aim-at r v h g = let e : 64 * r + v ≡ r * 64 + v = omega arith in rw e (aim-cell p r v h g)
 
   module _ (good : Good p) (r v : ℕ) (h : r < 8) (g : v < 64) where
     -- no initiator in the row

@@ -1,8 +1,8 @@
--- `writing::out::put` meets its contract: bytes that have room are put, and of others nothing is asked. Assumes nothing.
+-- `line::put` meets its contract: bytes that have room are put, and of others nothing is asked. Assumes nothing.
 use borrow.Author.Needs.{needs}
 use Rattle.lists.specs.laws.Puts.{puts-over}
-use Rattle.writing.proofs.out.put.Statement.{statement}
-use Rattle.writing.proofs.out.put.Tie as tie
+use Rattle.line.proofs.print.put.Statement.{statement}
+use Rattle.line.proofs.print.put.Tie as tie
 
 returns : tie.Need-returns
 returns c = let a = c .before .before .before .args in puts-over (a .out .now) (a .at) (a .s .now) (a .out .now) (a .at) (search needs)

@@ -1,0 +1,64 @@
+-- What the cells tell of the entries of a sound plan, and what an entry permits, told from its targets and its span.
+use mathlib.Core.Path.{_≡_, refl, sym, ap, _∙_}
+use mathlib.Core.List.{List}
+use mathlib.Core.Option.{Option, none, some}
+use mathlib.Core.Bool.{true, false}
+use Prim.Native.Nat.{ℕ, _+_, _*_, _≤_, _<_}
+use native.Mathlib.Omega.{arith}
+use lib.Dec.{leb}
+use Rattle.lists.specs.Place.{atPlace}
+use Rattle.lists.specs.laws.At.{no-place}
+use Rattle.sets.specs.Set.{member}
+use Rattle.plan_rules.specs.Plan.{nth, Entry, Plan}
+use Rattle.plan_rules.specs.Meaning.{initiators, fits, permits, entryAt}
+use Rattle.plan_rules.specs.laws.Sound.{Sound}
+use Rattle.plan_rules.specs.laws.Runs.{entry-at}
+use Rattle.plan_memory.specs.Memory.{ofRow, spanOf, spansOf, aimOf, aimsOf}
+use Rattle.plan_memory.specs.laws.InRows.{of-row, of-no-row, span-cell, aim-cell}
+use Rattle.plan_view.specs.View.{Tells}
+
+module _ (p : Plan) (ok : Sound p) where
+  -- no row from the eighth on, and no entry stands at a slot from the 64th on
+  past-rows : (g : Option Entry → ℕ) (r v : ℕ) → 8 ≤ r → 0 ≡ ofRow p r (λ (i : ℕ). g (entryAt (p .entries) i v))
+  past-rows g r v h = sym (of-no-row p r _ (no-place (initiators p) r (omega (arith, ok .eight))))
+
+  no-entry : (i v : ℕ) → 64 ≤ v → (o : Option Entry) → entryAt (p .entries) i v ≡ o → o ≡ none
+  no-entry i v h none q = refl
+  no-entry i v h (some e) q = let s = entry-at (p .entries) i v e q in absurd (omega (arith, ok .slots e (s .has), s .slot))
+
+  past-slots : (g : Option Entry → ℕ) → g none ≡ 0 → (r v : ℕ) → 64 ≤ v → 0 ≡ ofRow p r (λ (i : ℕ). g (entryAt (p .entries) i v))
+  past-slots g z r v h = go (atPlace r (initiators p)) refl
+    where
+      go : (o : Option ℕ) → atPlace r (initiators p) ≡ o → 0 ≡ ofRow p r (λ (i : ℕ). g (entryAt (p .entries) i v))
+      go none e = sym (of-no-row p r _ e)
+      go (some i) e = sym (of-row p r i _ e ∙ ap g (no-entry i v h (entryAt (p .entries) i v) refl) ∙ z)
+
+  module _ (r v : ℕ) where
+    pub span-past-rows : 8 ≤ r → 0 ≡ ofRow p r (λ (i : ℕ). spanOf (entryAt (p .entries) i v))
+    span-past-rows = past-rows spanOf r v
+
+    pub span-past-slots : 64 ≤ v → 0 ≡ ofRow p r (λ (i : ℕ). spanOf (entryAt (p .entries) i v))
+    unfolding spanOf
+    span-past-slots = past-slots spanOf refl r v
+
+    pub aim-past-rows : 8 ≤ r → 0 ≡ ofRow p r (λ (i : ℕ). aimOf (entryAt (p .entries) i v))
+    aim-past-rows = past-rows aimOf r v
+
+    pub aim-past-slots : 64 ≤ v → 0 ≡ ofRow p r (λ (i : ℕ). aimOf (entryAt (p .entries) i v))
+    unfolding aimOf
+    aim-past-slots = past-slots aimOf refl r v
+
+    pub span-told : r < 8 → v < 64 → (spans : List ℕ) → spans ≡ spansOf p → nth spans (r * 64 + v) ≡ ofRow p r (λ (i : ℕ). spanOf (entryAt (p .entries) i v))
+    span-told h g spans is = rw is (span-cell p r v h g)
+
+    pub aim-told : r < 8 → v < 64 → (aims : List ℕ) → aims ≡ aimsOf p → nth aims (r * 64 + v) ≡ ofRow p r (λ (i : ℕ). aimOf (entryAt (p .entries) i v))
+    aim-told h g aims is = rw is (aim-cell p r v h g)
+
+module _ (p : Plan) (e : Entry) (targets span : ℕ) (tells : Tells targets span e) (t n : ℕ) where
+  pub permits-if : member t targets ≡ true → leb n (256 * span) ≡ permits p e t n
+  unfolding permits fits
+  permits-if h = rw (tells .targets t, h, tells .span)
+
+  pub permits-not : member t targets ≡ false → false ≡ permits p e t n
+  unfolding permits
+  permits-not h = rw (tells .targets t, h)

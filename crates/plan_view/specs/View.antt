@@ -1,0 +1,52 @@
+-- What the running box reads of a plan: whether there is one, the rows of its initiators, its entries, the links of a path.
+use mathlib.Core.Path.{_≡_}
+use Prim.Native.Nat.{ℕ, _<_}
+use mathlib.Core.List.{List, []}
+use mathlib.Core.Option.{Option, none, some, Option·getD}
+use lib.Dec.{eqb}
+use Rattle.lists.specs.Search.{find, isIn}
+use Rattle.lists.specs.Place.{Found, first}
+use Rattle.sets.specs.Set.{member}
+use Rattle.plan_rules.specs.Plan.{Entry, Plan, blank}
+use Rattle.plan_rules.specs.Meaning.{initiators, leadsFrom}
+use Rattle.plan_rules.specs.laws.Sound.{Sound}
+use Rattle.plan_memory.specs.Memory.{rowsOf, pathsInOrder, spansOf, aimsOf, greatestOf, numbersOf}
+
+-- the plan, blank where there is none
+abbrev pub planIn : Option Plan → Plan
+planIn o = Option·getD o blank
+
+-- `numbers` is that of the plan, and a plan's greatest interval is not 0
+pub record Timed (o : Option Plan) (numbers′ : List ℕ) : Type 0 where
+  pub numbers : numbers′ ≡ numbersOf (planIn o)
+  pub some-interval : (p : Plan) → o ≡ some p → 0 < greatestOf (p .timings)
+
+-- plan memory as events read it
+pub record Shown (o : Option Plan) (rows′ spans′ aims′ numbers′ : List ℕ) : Type 0 where
+  pub sound : Sound (planIn o)
+  pub rows : rows′ ≡ rowsOf (planIn o)
+  pub spans : spans′ ≡ spansOf (planIn o)
+  pub aims : aims′ ≡ aimsOf (planIn o)
+  pub timed : Timed o numbers′
+
+-- the place of what is found, d for none
+unfoldable pub placeOr : {A : Type 0} → ℕ → Option (Found A) → ℕ
+placeOr d none = d
+placeOr d (some f) = f .place
+
+-- the row of an initiator, 8 for none
+unfoldable pub rowFor : Plan → ℕ → ℕ
+rowFor p i = placeOr 8 (first (eqb i) (initiators p))
+
+-- a set of targets and a span tell what an entry permits
+pub record Tells (targets′ span′ : ℕ) (e : Entry) : Type 0 where
+  pub targets : (t : ℕ) → isIn t (e .targets) ≡ member t targets′
+  pub span : e .span ≡ span′
+
+-- the row of a path in `paths`, 128 for none
+unfoldable pub pathPlace : Plan → ℕ → ℕ → ℕ
+pathPlace p i t = placeOr 128 (first (leadsFrom i t) (pathsInOrder p))
+
+-- the links of the path from i to t
+unfoldable pub linksBetween : Plan → ℕ → ℕ → List ℕ
+linksBetween p i t = elim (find (leadsFrom i t) (p .paths)) [ none ↦ [] | some x ↦ x .links ]

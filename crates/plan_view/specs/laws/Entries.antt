@@ -1,0 +1,69 @@
+-- What the span and the targets read at an initiator's row and a slot tell: the entry that stands there, or that none does.
+use mathlib.Core.Path.{_≡_, refl, sym, ap, _∙_}
+use mathlib.Core.Logic.{_≢_}
+use mathlib.Core.List.{List·Memᴰ}
+use mathlib.Core.Option.{Option, none, some}
+use mathlib.Core.Bool.{Bool, true, false, _&&_, and-false}
+use Prim.Native.Nat.{ℕ}
+use native.Mathlib.Omega.{arith}
+use lib.Dec.{ltb}
+use borrow.Author.Tests.{lt-ltb}
+use Rattle.lists.specs.Search.{isIn}
+use Rattle.lists.specs.Place.{atPlace}
+use Rattle.lists.specs.laws.Search.{isIn-elim}
+use Rattle.sets.specs.Set.{member}
+use Rattle.sets.specs.Packed.{member-packed}
+use Rattle.plan_rules.specs.Plan.{Entry, Plan}
+use Rattle.plan_rules.specs.Meaning.{initiators, entryAt}
+use Rattle.plan_rules.specs.laws.Sound.{Sound}
+use Rattle.plan_rules.specs.laws.Runs.{entry-at}
+use Rattle.plan_memory.specs.Memory.{ofRow, spanOf, aimOf}
+use Rattle.plan_memory.specs.laws.InRows.{of-row}
+use Rattle.plan_view.specs.View.{Tells}
+
+-- what is read at row r and slot v
+abbrev pub spanRead : Plan → ℕ → ℕ → ℕ
+spanRead p r v = ofRow p r (λ (i : ℕ). spanOf (entryAt (p .entries) i v))
+
+abbrev pub targetsRead : Plan → ℕ → ℕ → ℕ
+targetsRead p r v = ofRow p r (λ (i : ℕ). aimOf (entryAt (p .entries) i v))
+
+module _ (p : Plan) (ok : Sound p) (r i : ℕ) (row : atPlace r (initiators p) ≡ some i) (v span : ℕ) (is : span ≡ spanRead p r v) where
+  span-is : (o : Option Entry) → entryAt (p .entries) i v ≡ o → span ≡ spanOf o
+  span-is o h = is ∙ of-row p r i _ row ∙ ap spanOf h
+
+  pub entry-told : (e : Entry) → entryAt (p .entries) i v ≡ some e → (targets : ℕ) → targets ≡ targetsRead p r v → (span ≢ 0) × Tells targets span e
+  unfolding spanOf aimOf
+  entry-told e h targets ts = (λ z. omega (arith, span-is (some e) h, ok .some-span e here), record { targets = among; span = sym (span-is (some e) h) })
+    where
+      here : List·Memᴰ e (p .entries)
+      here = (entry-at (p .entries) i v e h) .has
+
+      -- a word has room for every target
+      low : (t : ℕ) (b : Bool) → isIn t (e .targets) ≡ b → b ≡ ltb t 64 && b
+      low t true q = rw (lt-ltb t 64 (ok .targets e here t (isIn-elim t (e .targets) q)))
+      low t false q = sym (and-false (ltb t 64))
+
+      among : (t : ℕ) → isIn t (e .targets) ≡ member t targets
+      among t =
+          low t (isIn t (e .targets)) refl
+          ∙ sym (ap (member t) (ts ∙ of-row p r i _ row ∙ ap aimOf h) ∙ member-packed t (λ (u : ℕ). isIn u (e .targets)))
+
+  pub entry-none : entryAt (p .entries) i v ≡ none → span ≡ 0
+  unfolding spanOf
+  entry-none h = span-is none h
+
+  -- the same, from the span that is read
+  pub some-read : span ≢ 0 → (targets : ℕ) → targets ≡ targetsRead p r v → (e : Entry) × (entryAt (p .entries) i v ≡ some e) × Tells targets span e
+  some-read d targets ts = go (entryAt (p .entries) i v) refl
+    where
+      go : (o : Option Entry) → entryAt (p .entries) i v ≡ o → (e : Entry) × (o ≡ some e) × Tells targets span e
+      go none h = absurd (d (entry-none h))
+      go (some e) h = (e, refl, (entry-told e h targets ts) .1)
+
+  pub none-read : span ≡ 0 → entryAt (p .entries) i v ≡ none
+  none-read z = go (entryAt (p .entries) i v) refl
+    where
+      go : (o : Option Entry) → entryAt (p .entries) i v ≡ o → o ≡ none
+      go none h = refl
+      go (some e) h = absurd ((entry-told e h (targetsRead p r v) refl) .0 z)

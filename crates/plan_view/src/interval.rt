@@ -1,0 +1,29 @@
+// Whether there is a plan, and its intervals.
+ghost use mathlib.Core.Path.{_≡_};
+ghost use mathlib.Core.Option.{Option};
+ghost use Prim.Native.Nat.{ℕ};
+ghost use Rattle.lists.specs.Search.{isSome};
+ghost use Rattle.plan_rules.specs.Plan.{Plan};
+ghost use Rattle.plan_memory.specs.Memory.{leastOf, greatestOf, numbersWith};
+ghost use Rattle.plan_view.specs.View.{Timed};
+
+// An accepted plan's greatest interval is 1 at least.
+pub fn is_loaded(numbers: &[u32; 6]) -> bool
+    ensures { λ r. ⌜ ((o : Option Plan) → Timed o (now (numbers .entry)) → r ≡ isSome o) ⌝ }
+{
+    numbers[1] != 0
+}
+
+// The least interval between time-codes, 0 where there is no plan.
+pub fn least_interval(numbers: &[u32; 6]) -> u32
+    ensures { λ r. ⌜ ((size : ℕ) (p : Plan) → now (numbers .entry) ≡ numbersWith size p → r ≡ leastOf (p .timings)) ⌝ }
+{
+    numbers[0]
+}
+
+// The greatest interval between time-codes, 0 where there is no plan.
+pub fn greatest_interval(numbers: &[u32; 6]) -> u32
+    ensures { λ r. ⌜ ((size : ℕ) (p : Plan) → now (numbers .entry) ≡ numbersWith size p → r ≡ greatestOf (p .timings)) ⌝ }
+{
+    numbers[1]
+}

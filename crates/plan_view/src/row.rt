@@ -1,0 +1,37 @@
+// The rows of the initiators.
+ghost use mathlib.Core.Path.{_≡_};
+ghost use Prim.Native.Nat.{ℕ};
+ghost use lib.ListN.{length};
+ghost use Rattle.plan_rules.specs.Plan.{Plan};
+ghost use Rattle.plan_rules.specs.Meaning.{initiators};
+ghost use Rattle.plan_rules.specs.laws.Sound.{Sound};
+ghost use Rattle.plan_memory.specs.Memory.{rowsOf, ofRow, numbersWith};
+ghost use Rattle.plan_view.specs.View.{rowFor};
+
+// How many initiators there are.
+pub fn count_of(numbers: &[u32; 6]) -> usize
+    ensures { λ r. ⌜ ((size : ℕ) (p : Plan) → Sound p → now (numbers .entry) ≡ numbersWith size p → r ≡ length (initiators p)) ⌝ }
+{
+    items::rows::at_most_8(numbers[2])
+}
+
+// The row of initiator i, 8 where the plan has no such initiator.
+pub fn row_of(rows: &[u8; 8], numbers: &[u32; 6], i: u8) -> usize
+    ensures { λ r. ⌜ ((size : ℕ) (p : Plan) → Sound p → now (rows .entry) ≡ rowsOf p → now (numbers .entry) ≡ numbersWith size p → r ≡ rowFor p i) ⌝ }
+{
+    let k = items::rows::row_of(rows, numbers[2], i);
+    if k < count_of(numbers) {
+        return k;
+    }
+    8
+}
+
+// The initiator of a row, 0 where it has none.
+pub fn initiator_of(rows: &[u8; 8], row: usize) -> u8
+    ensures { λ r. ⌜ ((p : Plan) → Sound p → now (rows .entry) ≡ rowsOf p → r ≡ ofRow p row (λ (i : ℕ). i)) ⌝ }
+{
+    if row < 8 {
+        return rows[row];
+    }
+    0
+}
