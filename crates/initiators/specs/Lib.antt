@@ -1,3 +1,4 @@
 pub mod Run
 pub mod Row
+pub mod Memory
 pub mod laws

@@ -1,1 +1,4 @@
 pub mod RunRows
+pub mod RunSides
+pub mod Found
+pub mod Refused

@@ -1,5 +1,3 @@
-// The initiators at run time, in memory that the caller lends: lines, live transactions, time-codes, requests, replies, the watchdog.
+// Run memory, one initiator's row at a time.
 pub mod row;
-pub mod status;
-pub mod watch;
 pub mod word;

@@ -65,7 +65,7 @@ record FitLine (s : Side) : Type 0 where
   few : length (s .line) ≤ 8
   line : (r : state.Request) → List·Memᴰ r (s .line) → FitRequest r
 
-idle-fit : FitSide idle
+pub idle-fit : FitSide idle
 unfolding idle
 idle-fit = record { next = omega arith; few = omega arith; line = λ r m. absurd (List·Memᴰ·not-nil m); live = λ l h. none-some h }
 

@@ -1,0 +1,46 @@
+-- What an event finds in plan memory: whether there is a plan, and the row of an initiator, 8 where the plan has no such initiator.
+use mathlib.Core.Path.{_≡_, refl, sym}
+use mathlib.Core.List.{List}
+use mathlib.Core.Option.{Option, some}
+use mathlib.Core.Bool.{Bool, true, false}
+use Prim.Native.Nat.{ℕ, _≤_, _<_}
+use native.Mathlib.Omega.{arith}
+use Rattle.lists.specs.Search.{isSome}
+use Rattle.lists.specs.Place.{atPlace}
+use Rattle.plan_rules.specs.Plan.{Plan}
+use Rattle.plan_rules.specs.Meaning.{isInitiator, initiators}
+use Rattle.plan_rules.specs.laws.Sound.{Sound}
+use Rattle.plan_memory.specs.Memory.{rowsOf, numbersWith, numbersOf}
+use Rattle.plan_view.specs.View.{Timed, rowFor}
+use Rattle.box_rules.specs.State.{Box, thePlan}
+use Rattle.initiators.specs.Memory.{Finds}
+use Rattle.plan_view.specs.laws.Rows.{row-for-place, row-for-some}
+
+-- what memory tells: whether there is a plan, and the row of initiator i
+abbrev pub Loaded : List ℕ → Bool → Type 0
+Loaded numbers x = (o : Option Plan) → Timed o numbers → x ≡ isSome o
+
+abbrev pub Rowed : List ℕ → List ℕ → ℕ → ℕ → Type 0
+Rowed rows numbers i row = (size : ℕ) (p : Plan) → Sound p → rows ≡ rowsOf p → numbers ≡ numbersWith size p → row ≡ rowFor p i
+
+module _ {b : Box} {rows spans aims numbers run last : List ℕ} (f : Finds b rows spans aims numbers run last) where
+  pub plan-told : (x : Bool) → Loaded numbers x → isSome (b .plan) ≡ x
+  plan-told x told = sym (told (b .plan) (f .plan .timed))
+
+  module _ (i row : ℕ) (told : Rowed rows numbers i row) where
+    here : row ≡ rowFor (thePlan b) i
+    unfolding thePlan numbersOf
+    here = told _ (thePlan b) (f .plan .sound) (f .plan .rows) (f .plan .timed .numbers)
+
+    pub is-initiator : row < 8 → isInitiator (thePlan b) i ≡ true
+    is-initiator h = (row-for-some (thePlan b) (f .fit .sound) i) .0 (omega (arith, here))
+
+    pub its-row : row < 8 → atPlace row (initiators (thePlan b)) ≡ some i
+    its-row h = rw here (row-for-place (thePlan b) (f .fit .sound) i (is-initiator h))
+
+    pub no-initiator : 8 ≤ row → isInitiator (thePlan b) i ≡ false
+    no-initiator h = go (isInitiator (thePlan b) i) refl
+      where
+        go : (x : Bool) → isInitiator (thePlan b) i ≡ x → x ≡ false
+        go true e = absurd (omega (arith, here, (row-for-some (thePlan b) (f .fit .sound) i) .1 e))
+        go false e = refl

@@ -1,0 +1,2 @@
+// The watchdog: its five numbers by value.
+pub mod watch;
