@@ -3,39 +3,33 @@ use mathlib.Core.Path.{_≡_, refl}
 use mathlib.Core.Logic.{_⊎_, inl, inr}
 use mathlib.Core.List.{List, [], _∷_, _++_, flatMap, List·Memᴰ, List·Memᴰ·append-cases, List·Memᴰ·not-nil, List·Memᴰ·eq-of-singleton}
 use mathlib.Core.Option.{Option, none, some}
-use mathlib.Core.Bool.{Bool, true, false, not}
+use mathlib.Core.Bool.{Bool, true, not}
 use Prim.Native.Nat.{ℕ, _+_, _≤_}
 use native.Mathlib.Omega.{arith}
-use lib.ListN.{length, length-append}
+use lib.ListN.{length}
 use lib.Dec.{eqb}
 use borrow.Author.Tests.{eqb-true}
 use Rattle.lists.specs.Search.{keep, only, below64}
 use Rattle.lists.specs.laws.Bools.{both-true, cond-cases}
 use Rattle.lists.specs.laws.Search.{only-elim}
-use Rattle.lists.specs.laws.Count.{parts-length, parts-short, only-short}
+use Rattle.lists.specs.laws.Count.{only-short}
 use Rattle.plan_rules.specs.Plan.{Entry, Plan}
 use Rattle.plan_rules.specs.Meaning.{isInitiator, initiators}
 use Rattle.box_rules.specs.declared.Watchdog.{Watchdog}
 use Rattle.box_rules.specs.State.{Box, Side, Live, thePlan}
-use Rattle.box_rules.specs.Refuse.{recordSize, mostRecords}
 use Rattle.box_rules.specs.Watch.{isEarly, isOverdue}
-use Rattle.box_rules.specs.Turn.{Start, inSequence, valueOf, isLate, survives, visited, starting, startOf}
-use Rattle.box_rules.specs.Records.{Record, recordBytes, plain, full, watchdogRecord, sequenceRecord, lateRecord, lateRecords, startRecord, stillRecord, visitRecords, visitsRecords, records}
+use Rattle.box_rules.specs.Turn.{Start, inSequence, valueOf, isLate, survives, visited, startOf}
+use Rattle.box_rules.specs.Records.{Record, plain, full, watchdogRecord, sequenceRecord, lateRecord, lateRecords, startRecord, stillRecord, visitRecords, visitsRecords, records}
 use Rattle.lists.specs.Order.{Rising}
 use Rattle.box_rules.specs.Promises.{isStartOf, stage, rank, RecordsInOrder, OncePerVisit}
 use Rattle.plan_rules.specs.Promises.{AcceptedIsSound}
 use Rattle.plan_rules.specs.laws.Initiators.{initiator-below}
-use Rattle.box_rules.specs.laws.Turns.{begins}
+use Rattle.box_rules.specs.laws.Counts.{watchdog-short, late-short, visit-short, records-few, records-size}
 use Rattle.box_rules.specs.laws.Steps.{records-cases}
 use Rattle.box_rules.specs.laws.Invariant.{reached-inv}
 use Rattle.lists.specs.laws.Rising.{Ordered, rising-kept, wider, short-ordered, append-ordered, flat-ordered, once}
 
--- 1 and 2: one record each at most
-watchdog-short : (w : Watchdog) (clock v : ℕ) → length (watchdogRecord w clock v) ≤ 1
-unfolding watchdogRecord
-watchdog-short w clock v =
-    cond-cases (λ (rs : List Record). length rs ≤ 1) (isEarly w clock) (plain 1 v ∷ []) (only (isOverdue w clock) (plain 2 v)) (λ _. omega arith) (λ _. only-short (isOverdue w clock) (plain 2 v))
-
+-- 1 and 2
 watchdog-rank : (w : Watchdog) (clock v : ℕ) (r : Record) → List·Memᴰ r (watchdogRecord w clock v) → rank r ≡ 64
 unfolding watchdogRecord plain stage
 watchdog-rank w clock v r m =
@@ -46,13 +40,8 @@ sequence-rank : (q : Bool) (v : ℕ) (r : Record) → List·Memᴰ r (sequenceRe
 unfolding sequenceRecord plain stage
 sequence-rank q v r m = rw ((only-elim (not q) r (plain 3 v) m) .1)
 
--- 3: one for each initiator at most
+-- 3
 module _ (q : Bool) (i v : ℕ) where
-  late-short : (o : Option Live) → length (lateRecord q i v o) ≤ 1
-  unfolding lateRecord
-  late-short none = omega arith
-  late-short (some l) = only-short (isLate q l) (full 4 i v (l .request))
-
   late-rank : (o : Option Live) (r : Record) → List·Memᴰ r (lateRecord q i v o) → rank r ≡ 192 + i
   unfolding lateRecord full stage
   late-rank none r m = absurd (List·Memᴰ·not-nil m)
@@ -97,30 +86,6 @@ module _ (p : Plan) (q : Bool) (byte i : ℕ) (s : Side) where
       by (inl z) = rw (z .shown)
       by (inr z) = rw (z .shown)
 
-  visit-short : length (visitRecords p q byte i s) ≤ 1
-  unfolding visitRecords startRecord stillRecord
-  visit-short = go (startOf p q byte i s) refl
-    where
-      v : ℕ
-      v = valueOf byte
-
-      idle : (o : Option Entry) → stillRecord o i v none ≡ []
-      idle none = refl
-      idle (some e) = refl
-
-      still : (o : Option Entry) (l : Option Live) → length (stillRecord o i v l) ≤ 1
-      still none l = omega arith
-      still (some e) none = omega arith
-      still (some e) (some l) = omega arith
-
-      go : (o : Option Start) → startOf p q byte i s ≡ o → length (startRecord i v (startOf p q byte i s) ++ stillRecord (visited p q byte i) i v (survives q (s .live))) ≤ 1
-      go none e = rw e (still (visited p q byte i) (survives q (s .live)))
-      go (some x) e = rw (e, (begins p q byte i s x e) .free, idle (visited p q byte i)) (omega arith)
-
-no-visit : (p : Plan) (byte i : ℕ) (s : Side) → length (visitRecords p false byte i s) ≡ 0
-unfolding visitRecords startRecord stillRecord startOf starting visited
-no-visit p byte i s = refl
-
 initiators-rise : (p : Plan) → Rising (initiators p)
 unfolding initiators below64
 initiators-rise p = rising-kept (isInitiator p) 64 0
@@ -160,41 +125,11 @@ module _ (b : Box) (w : Watchdog) (byte clock : ℕ) where
   unfolding records
   records-ordered = append-ordered rank 0 256 320 front (visitsRecords b byte) (omega arith) (omega arith) front-ordered visits-ordered
 
-  module _ (eight : length (initiators (thePlan b)) ≤ 8) where
-    -- out of sequence there is one record more and no visit
-    visits-few : (q : Bool) → inSequence (b .last) byte ≡ q → length (sequenceRecord q (valueOf byte)) + length (visitsRecords b byte) ≤ 8
-    unfolding visitsRecords sequenceRecord only
-    visits-few true e =
-        let p = thePlan b in
-        let q = inSequence (b .last) byte in
-        omega (arith, parts-short (λ (i : ℕ). visitRecords p q byte i (b .side i)) (λ i. visit-short p q byte i (b .side i)) (initiators p))
-    visits-few false e =
-        let p = thePlan b in
-        rw e (omega (arith, parts-length (λ (i : ℕ). visitRecords p false byte i (b .side i)) 0 (λ i. no-visit p byte i (b .side i)) (initiators p)))
-
-    records-few : length (records b w byte clock) ≤ mostRecords
-    unfolding records lateRecords
-    records-few =
-        let p = thePlan b in
-        let q = inSequence (b .last) byte in
-        let v = valueOf byte in
-        let ws = watchdogRecord w clock v in
-        let ss = sequenceRecord q v in
-        omega (
-          arith,
-          length-append front (visitsRecords b byte),
-          length-append (ws ++ ss) (lateRecords b byte),
-          length-append ws ss,
-          watchdog-short w clock v,
-          parts-short (λ (i : ℕ). lateRecord q i v ((b .side i) .live)) (λ i. late-short q i v ((b .side i) .live)) (initiators p),
-          visits-few q refl,
-        )
-
 pub records-in-order : AcceptedIsSound → RecordsInOrder
-unfolding RecordsInOrder recordBytes
+unfolding RecordsInOrder
 records-in-order ok b reached w byte clock = record {
   most = records-few b w byte clock ((reached-inv ok b reached) .sound .eight);
-  size = parts-length (recordBytes clock) recordSize (λ r. refl) (records b w byte clock);
+  size = records-size clock (records b w byte clock);
   order = (records-ordered b w byte clock) .rises;
 }
 

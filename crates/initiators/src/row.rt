@@ -12,7 +12,7 @@ ghost use Rattle.box_rules.specs.State.{Side, Live, Request};
 ghost use Rattle.box_rules.specs.Turn.{join, finish, aged, isLate, allows, starting, begun};
 ghost use Rattle.box_rules.specs.laws.Fit.{FitSide, FitLive, FitRequest};
 ghost use Rattle.plan_view.specs.View.{placeOr, Tells};
-ghost use Rattle.initiators.specs.Run.{rowOf, wordOf, liveTime};
+ghost use Rattle.initiators.specs.Run.{rowOf, wordOf, liveWord, liveTime};
 ghost use Rattle.initiators.specs.Row.{IsRow, HasRoom, liveRequest, lateOf, leaves, startedOf};
 use crate::word::word_of;
 use plan_view::entry::permits;
@@ -41,6 +41,14 @@ pub fn has_live(row: &[u64]) -> bool
     ensures { λ r. ⌜ ((s : Side) → FitSide s → now (row .entry) ≡ rowOf s → r ≡ isSome (s .live)) ⌝ }
 {
     row[11] != 0
+}
+
+// The request of the live transaction as its word, 0 where there is none.
+pub fn live_word(row: &[u64]) -> u64
+    requires { ⌜ IsRow (now row) ⌝ }
+    ensures { λ r. ⌜ ((s : Side) → FitSide s → now (row .entry) ≡ rowOf s → r ≡ liveWord (s .live)) ⌝ }
+{
+    row[10]
 }
 
 pub fn live_number(row: &[u64]) -> u16

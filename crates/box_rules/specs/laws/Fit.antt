@@ -11,12 +11,11 @@ use lib.ListN.{length, length-append}
 use lib.Dec.{eqb}
 use borrow.Author.Tests.{eqb-true, ltb-false, leb-false, not-false}
 use Rattle.lists.specs.Rows.{testOf}
-use Rattle.lists.specs.Place.{without}
 use Rattle.lists.specs.laws.Bools.{both-true, not-both, none-some, some-some, cond-cases}
 use Rattle.lists.specs.laws.Search.{any-elim}
 use Rattle.lists.specs.laws.Rows.{rise, no-row}
 use Rattle.lists.specs.laws.Place.{first-some, at-member, without-member, without-short}
-use Rattle.plan_rules.specs.Plan.{Plan}
+use Rattle.plan_rules.specs.Plan.{Entry, Plan}
 use Rattle.plan_rules.specs.Meaning.{isInitiator, permits}
 use Rattle.plan_rules.specs.Verdict.{number}
 use Rattle.plan_rules.specs.Judge.{judge}
@@ -30,10 +29,10 @@ use Rattle.box_rules.specs.declared.Watchdog.{Watchdog}
 use Rattle.box_rules.specs.State as state
 use Rattle.box_rules.specs.State.{Box, Side, Live, idle, cleared, holding, loaded, isAccepted, thePlan}
 use Rattle.box_rules.specs.Refuse.{refusal, refusals, mayStart}
-use Rattle.box_rules.specs.Turn.{Start, asked, join, finish, older, survives, aged, allows, fresh, startOf, turned, inSequence}
+use Rattle.box_rules.specs.Turn.{Start, asked, join, finish, older, survives, aged, visited, allows, starting, fresh, begun, startOf, turned, inSequence}
 use Rattle.box_rules.specs.Step.{Outcome, accepts, withSide, ticked}
 use Rattle.box_rules.specs.History.{Reached, by-clear, by-load, by-event}
-use Rattle.box_rules.specs.laws.Turns.{Outlives, begins, turned-start, turned-rest, live-cases}
+use Rattle.box_rules.specs.laws.Turns.{Outlives, outlives, visited-has, starting-elim, begins, turned-rest}
 use Rattle.box_rules.specs.laws.Steps.{step-cases}
 
 pub record FitRequest (r : state.Request) : Type 0 where
@@ -59,59 +58,48 @@ pub record Fit (b : Box) : Type 0 where
   pub others : (i : ℕ) → isInitiator (thePlan b) i ≡ false → b .side i ≡ idle
   pub byte : (w : ℕ) → b .last ≡ some w → w < 64
 
--- a side's number and line
-record FitLine (s : Side) : Type 0 where
-  next : s .next < 65_536
-  few : length (s .line) ≤ 8
-  line : (r : state.Request) → List·Memᴰ r (s .line) → FitRequest r
-
 pub idle-fit : FitSide idle
 unfolding idle
 idle-fit = record { next = omega arith; few = omega arith; line = λ r m. absurd (List·Memᴰ·not-nil m); live = λ l h. none-some h }
 
--- one side at a time-code
-module _ (p : Plan) (ok : Sound p) (q : Bool) (byte i : ℕ) (s : Side) where
-  older-fit : FitSide s → (l : Live) → Outlives q (s .live) l → FitLive l
-  unfolding older
-  older-fit f l o =
-      let w = f .live (o .was) (o .before) in
-      rw (o .is) (record { request = w .request; span = w .span; young = o .young })
+-- lateness: the line is as it was, and what is still live was live before
+pub aged-fit : (q : Bool) (s : Side) → FitSide s → FitSide (aged q s)
+unfolding aged older
+aged-fit q s f = record { next = f .next; few = f .few; line = f .line; live = λ l h. by l (outlives q (s .live) l h) }
+  where
+    by : (l : Live) → Outlives q (s .live) l → FitLive l
+    by l o =
+        let w = f .live (o .was) (o .before) in
+        rw (o .is) (record { request = w .request; span = w .span; young = o .young })
 
-  start-fit : FitSide s → (x : Start) → startOf p q byte i s ≡ some x → FitLive (fresh x)
-  unfolding fresh
-  start-fit f x h =
-      let g = begins p q byte i s x h in
-      let at = (first-some (allows p (x .entry)) (s .line) (x .found) (g .found)) .0 in
-      record {
-        request = f .line (x .found .what) (at-member (s .line) (x .found .place) (x .found .what) at);
-        span = ok .spans (x .entry) (g .at .has);
-        young = ok .some-span (x .entry) (g .at .has);
-      }
-
-  -- the line is the old one, or the old one without the one that starts
-  kept-line : FitSide s → FitLine (aged q s)
-  unfolding aged
-  kept-line f = record { next = f .next; few = f .few; line = f .line }
-
-  left-line : FitSide s → (x : Start) → FitLine (record { next = s .next; line = without (x .found .place) (s .line); live = some (fresh x) })
-  left-line f x = record {
-    next = f .next;
-    few = omega (arith, f .few, without-short (s .line) (x .found .place));
-    line = λ r m. f .line r (without-member (s .line) (x .found .place) r m);
-  }
-
-  turned-line : FitSide s → (o : Option Start) → startOf p q byte i s ≡ o → FitLine (turned p q byte i s)
-  turned-line f none e = rw (turned-rest p q byte i s e) (kept-line f)
-  turned-line f (some x) e = rw (turned-start p q byte i s x e) (left-line f x)
-
-  turned-fit : FitSide s → FitSide (turned p q byte i s)
-  turned-fit f =
-      let l = turned-line f (startOf p q byte i s) refl in
-      record { next = l .next; few = l .few; line = l .line; live = λ l h. by l (live-cases p q byte i s l h) }
+module _ (p : Plan) (ok : Sound p) where
+  -- a start at an entry of the plan: the line is the old one, or the old one without the one that starts
+  pub begun-fit : (o : Option Entry) → ((e : Entry) → o ≡ some e → List·Memᴰ e (p .entries)) → (s : Side) → FitSide s → FitSide (begun s (starting p o s))
+  unfolding begun fresh
+  begun-fit o has s f = go (starting p o s) refl
     where
-      by : (l : Live) → Outlives q (s .live) l ⊎ ((x : Start) × (startOf p q byte i s ≡ some x) × (l ≡ fresh x)) → FitLive l
-      by l (inl o) = older-fit f l o
-      by l (inr x) = rw (x .2) (start-fit f (x .0) (x .1))
+      go : (y : Option Start) → starting p o s ≡ y → FitSide (begun s y)
+      go none h = f
+      go (some x) h =
+          let z = starting-elim p o s x h in
+          let m = has (x .entry) (z .entry) in
+          let at = (first-some (allows p (x .entry)) (s .line) (x .found) (z .found)) .0 in
+          let l : FitLive (fresh x) = record {
+            request = f .line (x .found .what) (at-member (s .line) (x .found .place) (x .found .what) at);
+            span = ok .spans (x .entry) m;
+            young = ok .some-span (x .entry) m;
+          } in
+          record {
+            next = f .next;
+            few = omega (arith, f .few, without-short (s .line) (x .found .place));
+            line = λ r k. f .line r (without-member (s .line) (x .found .place) r k);
+            live = λ y e. rw (← some-some e) l;
+          }
+
+  -- one side at a time-code
+  turned-fit : (q : Bool) (byte i : ℕ) (s : Side) → FitSide s → FitSide (turned p q byte i s)
+  unfolding turned startOf
+  turned-fit q byte i s f = begun-fit (visited p q byte i) (λ e h. visited-has p q byte i e h) (aged q s) (aged-fit q s f)
 
 -- an idle side of no initiator stays idle: no entry of it stands anywhere
 idle-turned : (p : Plan) → Sound p → (q : Bool) (byte i : ℕ) → isInitiator p i ≡ false → turned p q byte i idle ≡ idle

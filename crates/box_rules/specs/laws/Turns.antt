@@ -1,6 +1,7 @@
 -- One side at a time-code: what outlives the report of lateness, what starts, and what is then live and waiting.
 use mathlib.Core.Path.{_≡_, refl, sym, ap, _∙_}
 use mathlib.Core.Logic.{_⊎_, inl, inr}
+use mathlib.Core.List.{List·Memᴰ}
 use mathlib.Core.Option.{Option, none, some}
 use mathlib.Core.Bool.{Bool, true, false}
 use Prim.Native.Nat.{ℕ, _+_, _<_}
@@ -44,12 +45,15 @@ unfolding visited
 visited-elim p true byte i e h = (refl, h)
 visited-elim p false byte i e h = none-some h
 
-record Starting (p : Plan) (o : Option Entry) (s : Side) (x : Start) : Type 0 where
-  entry : o ≡ some (x .entry)
-  free : s .live ≡ none
-  found : first (allows p (x .entry)) (s .line) ≡ some (x .found)
+pub visited-has : (p : Plan) (q : Bool) (byte i : ℕ) (e : Entry) → visited p q byte i ≡ some e → List·Memᴰ e (p .entries)
+visited-has p q byte i e h = (entry-at (p .entries) i (valueOf byte) e ((visited-elim p q byte i e h) .1)) .has
 
-starting-elim : (p : Plan) (o : Option Entry) (s : Side) (x : Start) → starting p o s ≡ some x → Starting p o s x
+pub record Starting (p : Plan) (o : Option Entry) (s : Side) (x : Start) : Type 0 where
+  pub entry : o ≡ some (x .entry)
+  pub free : s .live ≡ none
+  pub found : first (allows p (x .entry)) (s .line) ≡ some (x .found)
+
+pub starting-elim : (p : Plan) (o : Option Entry) (s : Side) (x : Start) → starting p o s ≡ some x → Starting p o s x
 unfolding starting startAt
 starting-elim p none s x h = none-some h
 starting-elim p (some e) s x h = go (isSome (s .live)) refl (first (allows p e) (s .line)) refl

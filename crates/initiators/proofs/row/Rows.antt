@@ -20,7 +20,8 @@ use Rattle.box_rules.specs.Turn.{asked, join, finish, isLate, older, survives, 
 use Rattle.box_rules.specs.laws.Fit.{FitSide, FitLive}
 use Rattle.initiators.specs.Run.{wordOf, liveWord, liveTime, rowOf}
 use Rattle.initiators.specs.Row.{HasRoom, liveRequest, lateOf, leaves}
-use Rattle.initiators.proofs.row.Words.{Apart, live-apart, live-told, late-told, young-told, older-time}
+use Rattle.initiators.specs.laws.Words.{Apart}
+use Rattle.initiators.proofs.row.Words.{live-apart, live-told, late-told, young-told, older-time}
 
 -- two words at the end of eight
 time-stored : (q : List ℕ) (a b t : ℕ) → length q ≡ 8 → set (q ++ (a ∷ b ∷ [])) 9 t ≡ q ++ (a ∷ t ∷ [])

@@ -1,4 +1,4 @@
--- A request's word comes apart again, and so does the live transaction's time: lateness, and what an entry permits, told from them.
+-- The live transaction's word and time come apart again: lateness, and what an entry permits, told from them.
 use mathlib.Core.Path.{_≡_, refl}
 use mathlib.Core.Option.{Option, none, some}
 use mathlib.Core.Bool.{Bool, true, false, not}
@@ -14,17 +14,7 @@ use Rattle.box_rules.specs.Turn.{isLate, older, survives, allows}
 use Rattle.box_rules.specs.laws.Fit.{FitRequest, FitLive}
 use Rattle.initiators.specs.Run.{wordOf, liveWord, liveTime}
 use Rattle.initiators.specs.Row.{liveRequest, lateOf}
-
--- the parts of a word are the request's
-pub record Apart (w : ℕ) (r : Request) : Type 0 where
-  pub target : w % 256 ≡ r .target
-  pub kind : w / 256 % 256 ≡ r .kind
-  pub length : w / 65_536 % 65_536 ≡ r .length
-  pub number : w / 4_294_967_296 % 65_536 ≡ r .number
-
-pub apart : (r : Request) → FitRequest r → Apart (wordOf r) r
-unfolding wordOf
-apart r f = record { target = omega arith; kind = omega arith; length = omega arith; number = omega arith }
+use Rattle.initiators.specs.laws.Words.{Apart, apart}
 
 pub live-apart : (o : Option Live) → ((l : Live) → o ≡ some l → FitLive l) → Apart (liveWord o) (liveRequest o)
 unfolding liveWord liveRequest

@@ -1,0 +1,14 @@
+-- `live_word` meets its contract. Assumes nothing.
+use Rattle.initiators.proofs.row.Rows.{live-word-at}
+use borrow.Author.Needs.{needs}
+use Rattle.initiators.proofs.row.live_word.Statement.{statement}
+use Rattle.initiators.proofs.row.live_word.Tie as tie
+
+shared-slice-read-result : tie.Need-shared-slice-read-result
+shared-slice-read-result c = search needs
+
+returns : tie.Need-returns
+returns c = λ s f is. live-word-at s f (c .before .args .row .now) is
+
+pub live-word-spec : {M : Type 1} → statement M
+live-word-spec = tie.close (tie.spec shared-slice-read-result returns)

@@ -1,0 +1,100 @@
+-- A sweep over the initiators, row after row: the rows below k have their new sides, the others the old ones, and what the first k
+-- initiators give is put into a lent buffer.
+use mathlib.Core.Path.{_≡_, refl, sym, ap, _∙_, fun-ext}
+use mathlib.Core.List.{List, flatMap}
+use mathlib.Core.Option.{Option, none, some}
+use mathlib.Core.Bool.{Bool, true, false, cond}
+use Prim.Native.Nat.{ℕ, _+_, _≤_, _<_}
+use native.Mathlib.Omega.{arith}
+use lib.ListN.{length, getD, take}
+use lib.Seq.{take-all}
+use lib.Dec.{eqb, ltb}
+use borrow.Author.Tests.{eqb-true, eqb-false, ltb-true, ltb-false, lt-ltb, le-ltb}
+use Rattle.lists.specs.Place.{atPlace}
+use Rattle.lists.specs.Puts.{Puts}
+use Rattle.lists.specs.laws.Bools.{cond-cases}
+use Rattle.lists.specs.laws.At.{place-at, no-place}
+use Rattle.lists.specs.laws.Stores.{flat-more}
+use Rattle.lists.specs.laws.Puts.{puts-none, puts-then}
+use Rattle.plan_rules.specs.Plan.{Plan}
+use Rattle.plan_rules.specs.Meaning.{initiators}
+use Rattle.box_rules.specs.State.{Side, idle}
+use Rattle.box_rules.specs.laws.Fit.{FitSide, idle-fit}
+use Rattle.initiators.specs.Run.{sideOf, changed, rowsWith, runOf}
+use Rattle.initiators.specs.laws.RunSides.{side-at}
+
+pub side-fit : (p : Plan) (side : ℕ → Side) → ((i : ℕ) → FitSide (side i)) → (r : ℕ) → FitSide (sideOf p side r)
+unfolding sideOf
+side-fit p side f r = go (atPlace r (initiators p))
+  where
+    go : (o : Option ℕ) → FitSide (elim o [ none ↦ idle | some i ↦ side i ])
+    go none = idle-fit
+    go (some i) = f i
+
+no-side : (p : Plan) (side : ℕ → Side) (r : ℕ) → length (initiators p) ≤ r → sideOf p side r ≡ idle
+unfolding sideOf
+no-side p side r h = rw (no-place (initiators p) r h, sideOf)
+
+module _ (p : Plan) (old new : ℕ → Side) where
+  unfoldable pub swept : ℕ → ℕ → Side
+  swept k r = cond (ltb r k) (sideOf p new r) (sideOf p old r)
+
+  pub swept-fit : ((i : ℕ) → FitSide (old i)) → ((i : ℕ) → FitSide (new i)) → (k r : ℕ) → FitSide (swept k r)
+  unfolding swept
+  swept-fit f g k r = cond-cases FitSide (ltb r k) (sideOf p new r) (sideOf p old r) (λ _. side-fit p new g r) (λ _. side-fit p old f r)
+
+  swept-none : (r : ℕ) → swept 0 r ≡ sideOf p old r
+  unfolding swept
+  swept-none r = rw (le-ltb r 0 (omega arith))
+
+  -- rows behind the initiators are idle before and after
+  swept-all : (k : ℕ) → length (initiators p) ≤ k → (r : ℕ) → swept k r ≡ sideOf p new r
+  unfolding swept
+  swept-all k h r = go (ltb r k) refl
+    where
+      go : (b : Bool) → ltb r k ≡ b → cond b (sideOf p new r) (sideOf p old r) ≡ sideOf p new r
+      go true e = refl
+      go false e = let l : length (initiators p) ≤ r = omega (arith, ltb-false r k e) in no-side p old r l ∙ sym (no-side p new r l)
+
+  module _ (k i : ℕ) (at : atPlace k (initiators p) ≡ some i) where
+    swept-here : swept k k ≡ old i
+    unfolding swept
+    swept-here = rw (le-ltb k k (omega arith)) (side-at p old k i at)
+
+    swept-next : (r : ℕ) → changed k (new i) (swept k) r ≡ swept (k + 1) r
+    unfolding changed swept
+    swept-next r = go (eqb r k) refl
+      where
+        less : (b : Bool) → eqb r k ≡ false → ltb r k ≡ b → ltb r (k + 1) ≡ b
+        less true n e = lt-ltb r (k + 1) (omega (arith, ltb-true r k e))
+        less false n e = le-ltb r (k + 1) (omega (arith, ltb-false r k e, eqb-false r k n))
+
+        go : (b : Bool) → eqb r k ≡ b → cond b (new i) (swept k r) ≡ swept (k + 1) r
+        go true e = rw (eqb-true r k e, lt-ltb k (k + 1) (omega arith)) (sym (side-at p new k i at))
+        go false e = rw (less (ltb r k) e refl)
+
+  -- the sweep's invariant
+  pub record Sweep (part : ℕ → List ℕ) (before : List ℕ) (i : ℕ) (run′ after : List ℕ) (j k : ℕ) : Type 0 where
+    pub run : run′ ≡ rowsWith (swept k)
+    pub puts : Puts before i (flatMap part (take k (initiators p))) after j
+
+  pub sweep-begin : (part : ℕ → List ℕ) (before : List ℕ) (i : ℕ) (run : List ℕ) → run ≡ runOf p old → Sweep part before i run before i 0
+  unfolding runOf flatMap
+  sweep-begin part before i run h = record { run = h ∙ ap rowsWith (fun-ext (λ r. sym (swept-none r))); puts = puts-none before i }
+
+  module _ {part : ℕ → List ℕ} {before : List ℕ} {i : ℕ} {run after : List ℕ} {j k : ℕ} (a : Sweep part before i run after j k) where
+    -- f is what becomes of the side of row k, and g what is put
+    pub sweep-next : k < length (initiators p) → (f : Side → Side) (g : Side → List ℕ) → let x = getD (initiators p) k 0 in f (old x) ≡ new x → g (old x) ≡ part x
+        → (run′ after′ : List ℕ) (j′ : ℕ) → run′ ≡ rowsWith (changed k (f (swept k k)) (swept k)) → Puts after j (g (swept k k)) after′ j′ → Sweep part before i run′ after′ j′ (k + 1)
+    sweep-next h f g ef eg run′ after′ j′ er ps =
+        let x = getD (initiators p) k 0 in
+        let at = place-at (initiators p) k 0 h in
+        let here = swept-here k x at in
+        record {
+          run = er ∙ ap (λ (y : Side). rowsWith (changed k y (swept k))) (ap f here ∙ ef) ∙ ap rowsWith (fun-ext (swept-next k x at));
+          puts = rw (flat-more part (initiators p) k 0 h) (puts-then (a .puts) (rw (here, eg) at ps));
+        }
+
+    pub sweep-done : length (initiators p) ≤ k → (run ≡ runOf p new) × Puts before i (flatMap part (initiators p)) after j
+    unfolding runOf
+    sweep-done h = (a .run ∙ ap rowsWith (fun-ext (swept-all k h)), rw (take-all k (initiators p) h) at (a .puts))

@@ -1,0 +1,90 @@
+-- What a time-code finds in memory, and what its step leaves there.
+use mathlib.Core.Path.{_≡_, refl, sym, ap, _∙_}
+use mathlib.Core.Logic.{_≢_}
+use mathlib.Core.List.{List, [], _∷_, flatMap}
+use Prim.Native.Nat.{ℕ, _+_, _/_, _%_, _≤_, _<_}
+use native.Mathlib.Omega.{arith}
+use lib.ListN.{length, getD, set}
+use borrow.Author.Tests.{leb-false, ltb-false}
+use Rattle.lists.specs.Rows.{testOf}
+use Rattle.lists.specs.Puts.{Puts}
+use Rattle.lists.specs.laws.Rows.{rise, no-row}
+use Rattle.lists.specs.laws.Stores.{put-front}
+use Rattle.plan_rules.specs.Canon.{written}
+use Rattle.plan_memory.specs.Memory.{rowsOf, spansOf, aimsOf, numbersWith, numbersOf}
+use Rattle.box_rules.specs.declared.Event.the-variants.{TimeCode}
+use Rattle.box_rules.specs.declared.Answer.the-variants.{Refused, Recorded}
+use Rattle.box_rules.specs.declared.Watchdog.{Watchdog}
+use Rattle.box_rules.specs.State.{Box, thePlan}
+use Rattle.box_rules.specs.Refuse.{refusal, refusals}
+use Rattle.box_rules.specs.Watch.{fed}
+use Rattle.box_rules.specs.Records.{Record, recordBytes, recorded, records}
+use Rattle.box_rules.specs.Step.{Outcome, step, accepts, ticked}
+use Rattle.box_rules.specs.laws.Steps.{step-accepted, step-refused}
+use Rattle.box_rules.specs.laws.Counts.{records-few, records-size}
+use Rattle.initiators.specs.Run.{lastOf, runOf}
+use Rattle.initiators.specs.Memory.{Finds, Does}
+
+module _ {b : Box} {rows spans aims numbers run last : List ℕ} (f : Finds b rows spans aims numbers run last) where
+  pub rows-held : rows ≡ rowsOf (thePlan b)
+  unfolding thePlan
+  rows-held = f .plan .rows
+
+  pub spans-held : spans ≡ spansOf (thePlan b)
+  unfolding thePlan
+  spans-held = f .plan .spans
+
+  pub aims-held : aims ≡ aimsOf (thePlan b)
+  unfolding thePlan
+  aims-held = f .plan .aims
+
+  pub numbers-held : numbers ≡ numbersWith (length (written (thePlan b))) (thePlan b)
+  unfolding thePlan numbersOf
+  numbers-held = f .plan .timed .numbers
+
+  pub last-told : getD last 0 0 ≡ lastOf (b .last)
+  last-told = ap (λ (l : List ℕ). getD l 0 0) (f .runs .last)
+
+  -- the one number of `last`, handed on
+  pub handed : Finds b rows spans aims numbers run (getD last 0 0 ∷ [])
+  handed = record { fit = f .fit; plan = f .plan; runs = record { run = f .runs .run; last = ap (λ (n : ℕ). n ∷ []) last-told } }
+
+  module _ (w : Watchdog) (byte clock : ℕ) (before : List ℕ) where
+    abbrev outcome : Outcome
+    outcome = step (length before) b w (TimeCode byte clock)
+
+    pub refused : (n : ℕ) → n ≡ refusal (length before) b (TimeCode byte clock) → n ≢ 0 → Does outcome clock (Refused n) w run last before before
+    unfolding recorded flatMap
+    refused n is d =
+        rw (step-refused (length before) b w (TimeCode byte clock) (λ z. d (is ∙ z)))
+        (record { answers = record { answer = ap Refused is; runs = f .runs }; watchdog = refl; records = refl })
+
+    module _ (free : 0 ≡ refusal (length before) b (TimeCode byte clock)) where
+      abbrev rs : List Record
+      rs = records b w byte clock
+
+      room : 136 ≤ length before
+      unfolding refusal refusals rise testOf
+      room = ltb-false (length before) 136 (no-row 29 (refusals (length before) b (TimeCode byte clock)) 0 refl (sym free))
+
+      small : byte < 64
+      unfolding refusal refusals rise testOf
+      small = leb-false 64 byte (no-row 21 (refusals (length before) b (TimeCode byte clock)) 0 refl (sym free))
+
+      pub accepted : (run′ after : List ℕ) (k : ℕ) (x : Watchdog) → (run′ ≡ runOf (thePlan b) (ticked b byte .side)) × Puts before 0 (flatMap (recordBytes clock) (records b w byte clock)) after k
+          → x ≡ fed w clock → Does outcome clock (Recorded (k / 8 % 256)) x run′ (set last 0 (byte % 64 + 1)) before after
+      unfolding accepts ticked thePlan lastOf recorded
+      accepted run′ after k x (er, ps) ex =
+          let few = records-few b w byte clock (f .fit .sound .eight) in
+          let size = records-size clock rs in
+          let (ek, eo) = put-front (ps .fitting (omega (arith, few, size, room))) (omega (arith, few, size, room)) in
+          let count : k / 8 % 256 ≡ length rs = omega (arith, few, size, ek) in
+          let value : byte % 64 + 1 ≡ byte + 1 = omega (arith, small) in
+          rw (step-accepted (length before) b w (TimeCode byte clock) (sym free)) (record {
+            answers = record {
+              answer = ap Recorded count;
+              runs = record { run = er; last = ap (λ (l : List ℕ). set l 0 (byte % 64 + 1)) (f .runs .last) ∙ ap (λ (n : ℕ). n ∷ []) value };
+            };
+            watchdog = ex;
+            records = eo;
+          })

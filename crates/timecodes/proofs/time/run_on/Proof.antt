@@ -1,0 +1,77 @@
+-- `run_on` meets its contract: each part of the records behind the one before. Assumes nothing.
+use lib.ListN.{length}
+use Rattle.plan_rules.specs.Canon.{written}
+use Rattle.box_rules.specs.State.{thePlan}
+use Rattle.box_rules.specs.Turn.{valueOf, aged}
+use Rattle.box_rules.specs.laws.Fit.{aged-fit}
+use Rattle.timecodes.proofs.time.Parts.{ran-in, ran-out}
+use Rattle.timecodes.proofs.time.Leaves.{rows-held, spans-held, aims-held, numbers-held, last-told}
+use borrow.Author.Needs.{needs}
+use Rattle.timecodes.proofs.time.run_on.Statement.{statement}
+use Rattle.timecodes.proofs.time.run_on.Tie as tie
+
+in-sequence-requires : tie.Need-in-sequence-requires
+in-sequence-requires c κs = search needs
+
+put-watchdog-requires : tie.Need-put-watchdog-requires
+put-watchdog-requires c κs = search needs
+
+put-sequence-requires : tie.Need-put-sequence-requires
+put-sequence-requires c κs = search needs
+
+report-late-requires : tie.Need-report-late-requires
+report-late-requires c κs = search needs
+
+visit-all-requires : tie.Need-visit-all-requires
+visit-all-requires c κs = search needs
+
+same-length : tie.Need-same-length
+same-length c = search needs
+
+returns : tie.Need-returns
+unfolding valueOf
+returns c =
+    let d = c .before .before .before .before .before in
+    let r = d .before .before .before in
+    let s = r .before .before .before .before .before in
+    let u = s .before .before .before .before in
+    let q = u .before .before .in-sequence in
+    let a = u .before .before .before .before .args in
+    λ b f.
+    let size = length (written (thePlan b)) in
+    let z = r .report-late .ensures (a .clock) size (thePlan b) (b .side) (f .fit .sound) (rows-held f) (numbers-held f) (f .fit .sides) (f .runs .run) in
+    let y =
+    c .before .before .visit-all .ensures (a .clock) size (thePlan b) (λ i. aged (q .result) (b .side i)) (f .fit .sound) (rows-held f) (spans-held f) (aims-held f) (numbers-held f)
+    (λ i. aged-fit (q .result) (b .side i) (f .fit .sides i)) (z .0)
+    in
+    ran-in b (a .w) (a .byte) (a .clock) (q .result) (q .ensures (b .last) (last-told f)) (u .put-watchdog .ensures) (s .put-sequence .ensures (a .clock)) (z .1) (d .if1 .taken) _ (y .0) _ _ (y .1)
+
+same-length-2 : tie.Need-same-length-2
+same-length-2 c = search needs
+
+returns-2 : tie.Need-returns-2
+unfolding valueOf
+returns-2 c =
+    let r = c .before .before .before in
+    let s = r .before .before .before .before .before in
+    let u = s .before .before .before .before in
+    let q = u .before .before .in-sequence in
+    let a = u .before .before .before .before .args in
+    λ b f.
+    let size = length (written (thePlan b)) in
+    let z = r .report-late .ensures (a .clock) size (thePlan b) (b .side) (f .fit .sound) (rows-held f) (numbers-held f) (f .fit .sides) (f .runs .run) in
+    ran-out b (a .w) (a .byte) (a .clock) (q .result) (q .ensures (b .last) (last-told f)) (u .put-watchdog .ensures) (s .put-sequence .ensures (a .clock)) (z .1) (c .if1 .left) _ (z .0)
+
+pub run-on-spec : {M : Type 1} → statement M
+run-on-spec =
+    tie.close
+    (tie.spec
+    in-sequence-requires
+    put-watchdog-requires
+    put-sequence-requires
+    report-late-requires
+    visit-all-requires
+    same-length
+    returns
+    same-length-2
+    returns-2)

@@ -1,0 +1,60 @@
+-- `time_code` meets its contract. Assumes nothing.
+use mathlib.Core.Path.{sym, _∙_}
+use Rattle.timecodes.proofs.time.Leaves.{handed, refused, accepted}
+use borrow.Author.Needs.{needs}
+use Rattle.timecodes.proofs.time.time_code.Statement.{statement}
+use Rattle.timecodes.proofs.time.time_code.Tie as tie
+
+refuse-requires : tie.Need-refuse-requires
+refuse-requires c κs = search needs
+
+returns : tie.Need-returns
+returns c =
+    let r = c .before .refuse in
+    let a = c .before .before .before .args in
+    λ b f. refused f (a .w) (a .byte) (a .clock) (a .records .now) (r .result) (r .ensures b (f .plan .timed) (a .clock)) (c .if1 .taken)
+
+element-copy-out-run-on : tie.Need-element-copy-out-run-on
+element-copy-out-run-on c = search needs
+
+run-on-requires : tie.Need-run-on-requires
+run-on-requires c κs = search needs
+
+add-last : tie.Need-add-last
+add-last c = search needs
+
+element-write-last : tie.Need-element-write-last
+element-write-last c = search needs
+
+cast-t22 : tie.Need-cast-t22
+cast-t22 c = search needs
+
+fed-with-requires : tie.Need-fed-with-requires
+fed-with-requires c κs = search needs
+
+same-length : tie.Need-same-length
+same-length c = search needs
+
+returns-2 : tie.Need-returns-2
+returns-2 c =
+    let m = c .before .before .before .run-on in
+    let d = c .before .before .before .before .before .before .before in
+    let r = d .before .refuse in
+    let a = d .before .before .before .args in
+    λ b f.
+    accepted f (a .w) (a .byte) (a .clock) (a .records .now) (sym (d .if1 .left) ∙ r .ensures b (f .plan .timed) (a .clock)) _ _ _ _ (m .ensures b (handed f)) (c .fed-with .ensures)
+
+pub time-code-spec : {M : Type 1} → statement M
+time-code-spec =
+    tie.close
+    (tie.spec
+    refuse-requires
+    returns
+    element-copy-out-run-on
+    run-on-requires
+    add-last
+    element-write-last
+    cast-t22
+    fed-with-requires
+    same-length
+    returns-2)

@@ -1,0 +1,124 @@
+// A time-code: the sequence rule, then the records in order, then the five numbers.
+ghost use mathlib.Core.Path.{_≡_};
+ghost use mathlib.Core.List.{[], _∷_, flatMap};
+ghost use mathlib.Core.Option.{Option};
+ghost use Prim.Native.Nat.{ℕ};
+ghost use lib.ListN.{length};
+ghost use Rattle.box_rules.specs.declared.Event.the-variants.{TimeCode};
+ghost use Rattle.lists.specs.Puts.{Puts};
+ghost use Rattle.plan_view.specs.View.{Timed};
+ghost use Rattle.box_rules.specs.State.{Box, thePlan};
+ghost use Rattle.box_rules.specs.Refuse.{refusal};
+ghost use Rattle.box_rules.specs.Turn.{inSequence};
+ghost use Rattle.box_rules.specs.Records as rules-records;
+ghost use Rattle.box_rules.specs.Records.{recordBytes};
+ghost use Rattle.box_rules.specs.Step as rules;
+ghost use Rattle.box_rules.specs.Step.{ticked};
+ghost use Rattle.initiators.specs.Run.{lastOf, runOf};
+ghost use Rattle.initiators.specs.Memory.{Finds, Does};
+use crate::late::report_late;
+use crate::records::put_sequence;
+use crate::records::put_watchdog;
+use crate::visit::visit_all;
+use box_rules::Answer;
+use box_rules::Watchdog;
+use plan_view::interval::is_loaded;
+use watchdog::watch::Stepped;
+use watchdog::watch::fed_with;
+
+// "The first after a load is in sequence; later ones are if v is one more than the last accepted value … modulo 64."
+fn in_sequence(last: u8, byte: u8) -> bool
+    ensures { λ r. ⌜ ((o : Option ℕ) → last ≡ lastOf o → r ≡ inSequence o byte) ⌝ }
+{
+    if last == 0 {
+        return true;
+    }
+    byte % 64 == last % 64
+}
+
+// Refusals 20, 21 and 29 of a time-code, 0 for none.
+fn refuse(numbers: &[u32; 6], byte: u8, room: usize) -> u8
+    ensures { λ r. ⌜ ((b : Box) → Timed (b .plan) (now (numbers .entry)) → (clock : ℕ) → r ≡ refusal room b (TimeCode byte clock)) ⌝ }
+{
+    if !is_loaded(numbers) {
+        return 20;
+    }
+    if 64 <= byte {
+        return 21;
+    }
+    if room < 136 {
+        return 29;
+    }
+    0
+}
+
+// The records of an accepted time-code, and run memory after it. Answers where the records end.
+fn run_on(
+    rows: &[u8; 8],
+    spans: &[u8; 512],
+    aims: &[u64; 512],
+    numbers: &[u32; 6],
+    run: &mut [u64; 96],
+    last: u8,
+    w: Watchdog,
+    byte: u8,
+    clock: u32,
+    records: &mut [u8],
+) -> usize
+    ensures { λ r. ⌜ ((b : Box) → Finds b (now (rows .entry)) (now (spans .entry)) (now (aims .entry)) (now (numbers .entry)) (now (run .entry)) (last ∷ []) →
+        (now (run .exit) ≡ runOf (thePlan b) (ticked b byte .side))
+        × Puts (now (records .entry)) 0 (flatMap (recordBytes clock) (rules-records.records b w byte clock)) (now (records .exit)) r) ⌝ }
+{
+    let v = byte % 64;
+    let q = in_sequence(last, byte);
+    let watched = put_watchdog(records, 0, w, clock, v);
+    let sequenced = put_sequence(records, watched, q, v);
+    let late = report_late(rows, numbers, run, records, sequenced, v, q);
+    if q {
+        return visit_all(rows, spans, aims, numbers, run, records, late, v);
+    }
+    late
+}
+
+pub fn time_code(
+    rows: &[u8; 8],
+    spans: &[u8; 512],
+    aims: &[u64; 512],
+    numbers: &[u32; 6],
+    run: &mut [u64; 96],
+    last: &mut [u8; 1],
+    w: Watchdog,
+    byte: u8,
+    clock: u32,
+    records: &mut [u8],
+) -> Stepped
+    ensures { λ r. ⌜ ((b : Box) → Finds b (now (rows .entry)) (now (spans .entry)) (now (aims .entry)) (now (numbers .entry)) (now (run .entry)) (now (last .entry)) →
+        Does (rules.step (length (now (records .entry))) b w (TimeCode byte clock)) clock (r .answer) (r .watchdog) (now (run .exit)) (now (last .exit)) (now (records .entry)) (now (records .exit))) ⌝ }
+{
+    let number = refuse(numbers, byte, records.len());
+    if number != 0 {
+        return Stepped {
+            answer: Answer::Refused { number },
+            watchdog: w,
+        };
+    }
+    let end = run_on(
+        rows,
+        spans,
+        aims,
+        numbers,
+        run,
+        last[0],
+        w,
+        byte,
+        clock,
+        records,
+    );
+    last[0] = byte % 64 + 1;
+    Stepped {
+        answer: Answer::Recorded {
+            count: (end / 8 % 256) as u8,
+        },
+        watchdog: fed_with(w, clock),
+    }
+}
