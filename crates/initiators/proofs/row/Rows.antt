@@ -6,7 +6,7 @@ use mathlib.Core.Bool.{Bool, true, false, not}
 use Prim.Native.Nat.{ℕ, suc, _+_, _-_, _*_, _%_, _^_, _<_}
 use native.Mathlib.Omega.{arith}
 use lib.ListN.{length, getD, set, take, drop, replicate, length-append, length-map}
-use lib.Seq.{set-at, getD-at, getD-append-add, set-append-left, take-at, drop-at}
+use lib.Seq.{set-at, set-append-left, take-at, drop-at}
 use lib.Dec.{eqb}
 use borrow.Author.Tests.{eq-eqb, ne-eqb}
 use Rattle.lists.specs.Search.{isSome}
@@ -20,7 +20,7 @@ use Rattle.box_rules.specs.Turn.{asked, join, finish, isLate, older, survives, 
 use Rattle.box_rules.specs.laws.Fit.{FitSide, FitLive}
 use Rattle.initiators.specs.Run.{wordOf, liveWord, liveTime, rowOf}
 use Rattle.initiators.specs.Row.{HasRoom, liveRequest, lateOf, leaves}
-use Rattle.initiators.specs.laws.Words.{Apart}
+use Rattle.initiators.specs.laws.Words.{Apart, live-word-in, live-time-in}
 use Rattle.initiators.proofs.row.Words.{live-apart, live-told, late-told, young-told, older-time}
 
 -- two words at the end of eight
@@ -65,15 +65,10 @@ module _ (s : Side) (f : FitSide s) (row : List ℕ) (is : row ≡ rowOf s) wher
       ∙ map-at wordOf 0 k (s .line) (replicate (8 - length words) 0 ++ rest) r h
 
   pub live-word-at : getD row 10 0 ≡ liveWord (s .live)
-  unfolding rowOf words
-  live-word-at = ap (λ (l : List ℕ). getD l 10 0) is ∙ getD-at (padded 8 0 words) (liveWord (s .live)) (liveTime (s .live) ∷ []) 0 8 eight
+  live-word-at = ap (λ (l : List ℕ). getD l 10 0) is ∙ live-word-in s f
 
   pub live-time-at : getD row 11 0 ≡ liveTime (s .live)
-  unfolding rowOf words rest
-  live-time-at =
-      ap (λ (l : List ℕ). getD l 11 0) is
-      ∙ ap (λ (i : ℕ). getD (padded 8 0 words ++ rest) (i + 1) 0) (sym eight)
-      ∙ getD-append-add (padded 8 0 words) rest 1 0
+  live-time-at = ap (λ (l : List ℕ). getD l 11 0) is ∙ live-time-in s f
 
   pub live-parts : Apart (getD row 10 0) (liveRequest (s .live))
   live-parts = rw live-word-at (live-apart (s .live) (f .live))

@@ -1,0 +1,33 @@
+-- `calls::load::load_with` meets its contract. Assumes nothing.
+use borrow.Author.Needs.{needs}
+use Rattle.calls.specs.laws.Boxes.{load-leaves, load-watchdog}
+use Rattle.calls.proofs.load.load_with.Statement.{statement}
+use Rattle.calls.proofs.load.load_with.Tie as tie
+
+load-requires : tie.Need-load-requires
+load-requires c κs = search needs
+
+clear-run-requires : tie.Need-clear-run-requires
+clear-run-requires c κs = search needs
+
+element-copy-out-least : tie.Need-element-copy-out-least
+element-copy-out-least c = search needs
+
+element-copy-out-greatest : tie.Need-element-copy-out-greatest
+element-copy-out-greatest c = search needs
+
+returns : tie.Need-returns
+returns c =
+    let r = c .before .before .clear-run .ensures in
+    let l = c .before .before .before .before .before .load .ensures in
+    record { verdict = l .0; holds = load-leaves (r .0) (r .1) _ (l .1); five = load-watchdog _ (l .1 .numbers) }
+
+pub load-with-spec : {M : Type 1} → statement M
+load-with-spec =
+    tie.close
+    (tie.spec
+    load-requires
+    clear-run-requires
+    element-copy-out-least
+    element-copy-out-greatest
+    returns)

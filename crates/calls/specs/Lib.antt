@@ -1,0 +1,3 @@
+pub mod Box
+pub mod Calls
+pub mod laws

@@ -1,0 +1,63 @@
+-- The box and the five numbers that a clear and a load leave, from the memory that they leave.
+use mathlib.Core.Path.{_≡_, refl, sym, _∙_}
+use mathlib.Core.List.{List, [], _∷_}
+use mathlib.Core.Option.{Option·getD}
+use mathlib.Core.Bool.{Bool, true, false, cond}
+use Prim.Native.Nat.{ℕ}
+use lib.ListN.{replicate}
+use borrow.Author.Tests.{eqb-true}
+use Rattle.plan_rules.specs.Plan.{nth, Timing, Plan, blank}
+use Rattle.plan_rules.specs.Verdict.{number}
+use Rattle.plan_rules.specs.Judge.{judge}
+use Rattle.plan_rules.specs.Canon.{canonical, given, planOf}
+use Rattle.plan_rules.specs.laws.Accepted.{accepted-good}
+use Rattle.plan_memory.specs.Memory as plan
+use Rattle.plan_memory.specs.Memory.{leastOf, greatestOf, numbersWith, numbersOf}
+use Rattle.plan_memory.specs.laws.SameMemory.{holds-canonical}
+use Rattle.box_rules.specs.declared.Watchdog.{Watchdog}
+use Rattle.box_rules.specs.State.{Box, idle, cleared, watchdogCleared, holding, timingOf, watchdogFor, isAccepted, loaded, watchdogLoaded, thePlan}
+use Rattle.initiators.specs.Run.{lastOf, Runs}
+use Rattle.plan.specs.Load.{left}
+use Rattle.calls.specs.Box.{Holds}
+use Rattle.calls.specs.laws.Idle.{idle-run}
+
+module _ {sets ends rows reach paths spans aims numbers run last : List ℕ} (zero-run : run ≡ replicate 96 0) (zero-last : last ≡ replicate 1 0) where
+  pub clear-leaves : plan.Holds blank sets ends rows reach paths spans aims numbers → Holds cleared sets ends rows reach paths spans aims numbers run last
+  unfolding cleared thePlan lastOf
+  clear-leaves m = record { plan = m; runs = record { run = zero-run ∙ sym (idle-run blank); last = zero-last } }
+
+  holding-leaves : (p : Plan) → plan.Holds p sets ends rows reach paths spans aims numbers → Holds (holding p) sets ends rows reach paths spans aims numbers run last
+  unfolding holding thePlan lastOf
+  holding-leaves p m = record { plan = m; runs = record { run = zero-run ∙ sym (idle-run p); last = zero-last } }
+
+  pub load-leaves : (file : List ℕ) → plan.Holds (left file) sets ends rows reach paths spans aims numbers → Holds (loaded file) sets ends rows reach paths spans aims numbers run last
+  unfolding left loaded isAccepted planOf
+  load-leaves file = go (isAccepted file) refl
+    where
+      go : (x : Bool) → isAccepted file ≡ x → plan.Holds (cond x (given file) blank) sets ends rows reach paths spans aims numbers
+          → Holds (cond x (holding (planOf file)) cleared) sets ends rows reach paths spans aims numbers run last
+      go true e m = holding-leaves (planOf file) ((holds-canonical (given file) (accepted-good file (eqb-true _ _ e)) sets ends rows reach paths spans aims numbers) .0 m)
+      go false e m = clear-leaves m
+
+-- the five numbers after a load: the intervals that memory has
+abbrev fresh : ℕ → ℕ → Watchdog
+fresh least greatest = record { last = 0; seen = 0; reported = 0; least = least; greatest = greatest }
+
+fresh-for : (p : Plan) → fresh (leastOf (p .timings)) (greatestOf (p .timings)) ≡ watchdogFor p
+unfolding watchdogFor timingOf leastOf greatestOf
+fresh-for p = go (p .timings)
+  where
+    first : List Timing → Timing
+    first ts = elim ts [ [] ↦ record { least = 0; greatest = 0 } | t ∷ us ↦ t ]
+
+    go : (ts : List Timing) → fresh (leastOf ts) (greatestOf ts) ≡ fresh ((first ts) .least) ((first ts) .greatest)
+    go [] = refl
+    go (t ∷ ts) = refl
+
+pub load-watchdog : (file : List ℕ) {numbers : List ℕ} → numbers ≡ numbersOf (left file) → fresh (nth numbers 0) (nth numbers 1) ≡ watchdogLoaded file
+unfolding left watchdogLoaded watchdogCleared isAccepted planOf canonical blank numbersOf numbersWith leastOf greatestOf
+load-watchdog file is = rw is (go (isAccepted file))
+  where
+    go : (x : Bool) → fresh (nth (numbersOf (cond x (given file) blank)) 0) (nth (numbersOf (cond x (given file) blank)) 1) ≡ cond x (watchdogFor (planOf file)) watchdogCleared
+    go true = fresh-for (planOf file)
+    go false = refl

@@ -1,0 +1,78 @@
+// "Clear. The state is then the one before any load, every number of it."
+ghost use mathlib.Core.Path.{_≡_};
+ghost use lib.ListN.{replicate};
+ghost use Rattle.box_rules.specs.State.{watchdogCleared};
+ghost use Rattle.calls.specs.Calls.{memory, ClearLeaves};
+use box_rules::Watchdog;
+
+// Run memory of a clear.
+pub fn clear_run(run: &mut [u64; 96], last: &mut [u8; 1])
+    ensures { λ _. ⌜ (now (run .exit) ≡ replicate 96 0) × (now (last .exit) ≡ replicate 1 0) ⌝ }
+{
+    *run = [0u64; 96];
+    *last = [0u8; 1];
+}
+
+// The five numbers of a clear.
+pub fn cleared_watchdog() -> Watchdog
+    ensures { λ r. ⌜ r ≡ watchdogCleared ⌝ }
+{
+    Watchdog {
+        last: 0,
+        seen: 0,
+        reported: 0,
+        least: 0,
+        greatest: 0,
+    }
+}
+
+// The box of a clear; the five numbers as the answer.
+pub fn clear_with(
+    sets: &mut [u64; 3],
+    ends: &mut [u8; 128],
+    rows: &mut [u8; 8],
+    reach: &mut [u64; 8],
+    paths: &mut [u8; 1408],
+    spans: &mut [u8; 512],
+    aims: &mut [u64; 512],
+    numbers: &mut [u32; 6],
+    run: &mut [u64; 96],
+    last: &mut [u8; 1],
+) -> Watchdog
+    ensures { λ r. ⌜ ClearLeaves (memory (now (sets .exit)) (now (ends .exit)) (now (rows .exit)) (now (reach .exit)) (now (paths .exit)) (now (spans .exit)) (now (aims .exit)) (now (numbers .exit)) (now (run .exit)) (now (last .exit))) r ⌝ }
+{
+    plan::load::clear(sets, ends, rows, reach, paths, spans, aims, numbers);
+    clear_run(run, last);
+    cleared_watchdog()
+}
+
+// The box of a clear, whatever memory held before.
+pub fn clear(
+    sets: &mut [u64; 3],
+    ends: &mut [u8; 128],
+    rows: &mut [u8; 8],
+    reach: &mut [u64; 8],
+    paths: &mut [u8; 1408],
+    spans: &mut [u8; 512],
+    aims: &mut [u64; 512],
+    numbers: &mut [u32; 6],
+    run: &mut [u64; 96],
+    last: &mut [u8; 1],
+    watchdog: &mut Watchdog,
+)
+    ensures { λ _. ⌜ ClearLeaves (memory (now (sets .exit)) (now (ends .exit)) (now (rows .exit)) (now (reach .exit)) (now (paths .exit)) (now (spans .exit)) (now (aims .exit)) (now (numbers .exit)) (now (run .exit)) (now (last .exit))) (now (watchdog .exit)) ⌝ }
+{
+    let five = clear_with(
+        sets,
+        ends,
+        rows,
+        reach,
+        paths,
+        spans,
+        aims,
+        numbers,
+        run,
+        last,
+    );
+    *watchdog = five;
+}

@@ -1,0 +1,12 @@
+pub mod Held
+pub mod Nothing
+pub mod Verdicts
+pub mod Rows
+pub mod Paths
+pub mod Says
+pub mod Links
+pub mod Written
+pub mod InTime
+pub mod Entries
+pub mod Lives
+pub mod All

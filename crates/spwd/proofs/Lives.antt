@@ -1,0 +1,109 @@
+-- What is live in a row of memory was live there before, or its start is in the buffer.
+use mathlib.Core.Path.{_≡_, refl, sym, ap, _∙_}
+use mathlib.Core.Logic.{_≢_, _⊎_, inl, inr}
+use mathlib.Core.List.{List·Memᴰ}
+use mathlib.Core.Option.{Option, none, some}
+use Prim.Native.Nat.{ℕ, _+_, _*_, _<_}
+use native.Mathlib.Omega.{arith}
+use lib.ListN.{length}
+use Rattle.lists.specs.Place.{atPlace}
+use Rattle.plan_rules.specs.Plan.{nth}
+use Rattle.plan_rules.specs.Meaning.{initiators}
+use Rattle.plan_rules.specs.Promises.{AcceptedIsSound}
+use Rattle.box_rules.specs.declared.Watchdog.{Watchdog}
+use Rattle.box_rules.specs.State as state
+use Rattle.box_rules.specs.State.{Box, Live, idle, thePlan}
+use Rattle.box_rules.specs.Records.{full}
+use Rattle.box_rules.specs.Step.{Outcome, step}
+use Rattle.box_rules.specs.Promises as box
+use Rattle.box_rules.specs.laws.Steps.{plan-kept}
+use Rattle.box_rules.specs.laws.Fit.{FitRequest}
+use Rattle.initiators.specs.Run.{wordOf, liveWord, liveTime, sideOf}
+use Rattle.initiators.specs.laws.Words.{apart}
+use Rattle.calls.specs.Calls.{Memory, by-event}
+use Rattle.spwd.specs.Words.{runWord, requestIn}
+use Rattle.spwd.specs.Promises.{HeldBy, StillLive, Started, LiveByRecordOnly}
+use Rattle.spwd.proofs.Held.{held, outcome}
+use Rattle.spwd.proofs.Rows.{live-word, live-time, initiator-row}
+use Rattle.spwd.proofs.Written.{start-in}
+
+-- a word tells its request
+request-told : (r : state.Request) → FitRequest r → requestIn (wordOf r) ≡ r
+unfolding requestIn
+request-told r f = let a = apart r f in λ z. record { target = a .target z; kind = a .kind z; length = a .length z; number = a .number z }
+
+-- the live transaction of a row that says so
+record Lives (m : Memory) (b : Box) (r : ℕ) : Type 0 where
+  initiator : ℕ
+  place : atPlace r (initiators (thePlan b)) ≡ some initiator
+  live : Live
+  is : (b .side initiator) .live ≡ some live
+
+lives : (m : Memory) (b : Box) → HeldBy m b → (r : ℕ) → r < 8 → runWord m r 11 ≢ 0 → Lives m b r
+unfolding sideOf liveTime idle
+lives m b h r low n = go (atPlace r (initiators (thePlan b))) refl
+  where
+    by : (i : ℕ) → atPlace r (initiators (thePlan b)) ≡ some i → (o : Option Live) → (b .side i) .live ≡ o → Lives m b r
+    by i at none is = absurd (n (live-time m b h r low ∙ rw (at, sideOf, is, liveTime)))
+    by i at (some l) is = record { initiator = i; place = at; live = l; is = is }
+
+    go : (o : Option ℕ) → atPlace r (initiators (thePlan b)) ≡ o → Lives m b r
+    go none at = absurd (n (live-time m b h r low ∙ rw (at, sideOf)))
+    go (some i) at = by i at ((b .side i) .live) refl
+
+-- its words
+module _ (m : Memory) (b : Box) (h : HeldBy m b) (r i : ℕ) (low : r < 8) (at : atPlace r (initiators (thePlan b)) ≡ some i) (l : Live) (is : (b .side i) .live ≡ some l) where
+  word-is : runWord m r 10 ≡ wordOf (l .request)
+  unfolding sideOf liveWord
+  word-is = live-word m b h r low ∙ rw (at, sideOf, is, liveWord)
+
+  time-is : runWord m r 11 ≡ l .span * 256 + l .age
+  unfolding sideOf liveTime
+  time-is = live-time m b h r low ∙ rw (at, sideOf, is, liveTime)
+
+pub live-by-record-only : AcceptedIsSound → box.LiveByRecordOnly → LiveByRecordOnly
+unfolding LiveByRecordOnly box.LiveByRecordOnly
+live-by-record-only ok only before after e answer b came s r low n = go (only b (h .reached) size w e (x .initiator) (x .live) (x .is))
+  where
+    size : ℕ
+    size = length (before .records)
+
+    w : Watchdog
+    w = before .five
+
+    o : Outcome
+    o = step size b w e
+
+    h : HeldBy (before .memory) b
+    h = held ok (before .memory) b came
+
+    h′ : HeldBy (after .memory) (o .box)
+    h′ = held ok (after .memory) (o .box) (by-event came e s)
+
+    x : Lives (after .memory) (o .box) r
+    x = lives (after .memory) (o .box) h′ r low n
+
+    at : atPlace r (initiators (thePlan b)) ≡ some (x .initiator)
+    at = rw (plan-kept size b w e) at (x .place)
+
+    word : runWord (after .memory) r 10 ≡ wordOf (x .live .request)
+    word = word-is (after .memory) (o .box) h′ r (x .initiator) low (x .place) (x .live) (x .is)
+
+    go : ((m : Live) × ((b .side (x .initiator)) .live ≡ some m) × (x .live .request ≡ m .request) × (x .live .span ≡ m .span))
+        ⊎ ((v : ℕ) × List·Memᴰ (full 5 (x .initiator) v (x .live .request)) (o .records))
+        → StillLive (before .memory) (after .memory) r ⊎ Started e answer (after .records) (nth (after .memory .rows) r) (requestIn (runWord (after .memory) r 10))
+    go (inl (m, is, request, span)) =
+        let f = (h .finds .fit .sides (x .initiator)) .live m is in
+        let f′ = (h′ .finds .fit .sides (x .initiator)) .live (x .live) (x .is) in
+        let time = time-is (before .memory) b h r (x .initiator) low at m is in
+        let time′ = time-is (after .memory) (o .box) h′ r (x .initiator) low (x .place) (x .live) (x .is) in
+        inl
+        (record {
+          live = λ z. omega (arith, f .young);
+          request = word ∙ ap wordOf request ∙ sym (word-is (before .memory) b h r (x .initiator) low at m is);
+          span = omega (arith, f .young, f .span, f′ .young, f′ .span, span);
+        })
+    go (inr (v, m)) =
+        let f′ = (h′ .finds .fit .sides (x .initiator)) .live (x .live) (x .is) in
+        let own = initiator-row (after .memory) (o .box) h′ r (x .initiator) (x .place) in
+        inr (rw (own, word, request-told (x .live .request) (f′ .request)) (start-in size b w e (outcome ok b e s h) (x .initiator) v (x .live .request) m))
