@@ -1,5 +1,6 @@
 -- The box and the five numbers that a clear and a load leave, from the memory that they leave.
 use mathlib.Core.Path.{_≡_, refl, sym, _∙_}
+use mathlib.Core.Logic.{_↔_}
 use mathlib.Core.List.{List, [], _∷_}
 use mathlib.Core.Option.{Option·getD}
 use mathlib.Core.Bool.{Bool, true, false, cond}
@@ -21,23 +22,30 @@ use Rattle.plan.specs.Load.{left}
 use Rattle.calls.specs.Box.{Holds}
 use Rattle.calls.specs.laws.Idle.{idle-run}
 
-module _ {sets ends rows reach paths spans aims numbers run last : List ℕ} (zero-run : run ≡ replicate 96 0) (zero-last : last ≡ replicate 1 0) where
-  pub clear-leaves : plan.Holds blank sets ends rows reach paths spans aims numbers → Holds cleared sets ends rows reach paths spans aims numbers run last
+module _ {sets ends rows reach paths spans aims numbers run last : List ℕ} where
+  -- memory holds the box of a clear exactly where it is all 0
+  pub holds-cleared : Holds cleared sets ends rows reach paths spans aims numbers run last
+      ↔ (plan.Holds blank sets ends rows reach paths spans aims numbers × (run ≡ replicate 96 0) × (last ≡ replicate 1 0))
   unfolding cleared thePlan lastOf
-  clear-leaves m = record { plan = m; runs = record { run = zero-run ∙ sym (idle-run blank); last = zero-last } }
+  holds-cleared = (
+    λ h. (h .plan, h .runs .run ∙ idle-run blank, h .runs .last),
+    λ z. record { plan = z .0; runs = record { run = z .1 ∙ sym (idle-run blank); last = z .2 } },
+  )
 
-  holding-leaves : (p : Plan) → plan.Holds p sets ends rows reach paths spans aims numbers → Holds (holding p) sets ends rows reach paths spans aims numbers run last
+  holds-fresh : (p : Plan) → plan.Holds p sets ends rows reach paths spans aims numbers → run ≡ replicate 96 0 → last ≡ replicate 1 0
+      → Holds (holding p) sets ends rows reach paths spans aims numbers run last
   unfolding holding thePlan lastOf
-  holding-leaves p m = record { plan = m; runs = record { run = zero-run ∙ sym (idle-run p); last = zero-last } }
+  holds-fresh p m r l = record { plan = m; runs = record { run = r ∙ sym (idle-run p); last = l } }
 
-  pub load-leaves : (file : List ℕ) → plan.Holds (left file) sets ends rows reach paths spans aims numbers → Holds (loaded file) sets ends rows reach paths spans aims numbers run last
+  pub holds-loaded : (file : List ℕ) → plan.Holds (left file) sets ends rows reach paths spans aims numbers → run ≡ replicate 96 0 → last ≡ replicate 1 0
+      → Holds (loaded file) sets ends rows reach paths spans aims numbers run last
   unfolding left loaded isAccepted planOf
-  load-leaves file = go (isAccepted file) refl
+  holds-loaded file m r l = go (isAccepted file) refl m
     where
       go : (x : Bool) → isAccepted file ≡ x → plan.Holds (cond x (given file) blank) sets ends rows reach paths spans aims numbers
           → Holds (cond x (holding (planOf file)) cleared) sets ends rows reach paths spans aims numbers run last
-      go true e m = holding-leaves (planOf file) ((holds-canonical (given file) (accepted-good file (eqb-true _ _ e)) sets ends rows reach paths spans aims numbers) .0 m)
-      go false e m = clear-leaves m
+      go true e n = holds-fresh (planOf file) ((holds-canonical (given file) (accepted-good file (eqb-true _ _ e)) sets ends rows reach paths spans aims numbers) .0 n) r l
+      go false e n = (holds-cleared .1) (n, r, l)
 
 -- the five numbers after a load: the intervals that memory has
 abbrev fresh : ℕ → ℕ → Watchdog

@@ -16,13 +16,16 @@ use Rattle.box_rules.specs.laws.Fit.{FitSide, Fit, idle-fit}
 use Rattle.initiators.specs.Run.{rowOf, sideOf, changed, rowsWith, runOf, Runs}
 use Rattle.initiators.specs.laws.RunRows.{run-part, run-put, run-changed}
 
-pub sides-fit : (b : Box) → Fit b → (k : ℕ) → FitSide (sideOf (thePlan b) (b .side) k)
+pub side-fit : (p : Plan) (side : ℕ → Side) → ((i : ℕ) → FitSide (side i)) → (r : ℕ) → FitSide (sideOf p side r)
 unfolding sideOf
-sides-fit b fit k = go (atPlace k (initiators (thePlan b)))
+side-fit p side f r = go (atPlace r (initiators p))
   where
-    go : (o : Option ℕ) → FitSide (elim o [ none ↦ idle | some i ↦ b .side i ])
+    go : (o : Option ℕ) → FitSide (elim o [ none ↦ idle | some i ↦ side i ])
     go none = idle-fit
-    go (some i) = fit .sides i
+    go (some i) = f i
+
+pub sides-fit : (b : Box) → Fit b → (k : ℕ) → FitSide (sideOf (thePlan b) (b .side) k)
+sides-fit b fit k = side-fit (thePlan b) (b .side) (fit .sides) k
 
 pub side-at : (p : Plan) (side : ℕ → Side) (row i : ℕ) → atPlace row (initiators p) ≡ some i → sideOf p side row ≡ side i
 unfolding sideOf

@@ -2,7 +2,7 @@
 -- initiators give is put into a lent buffer.
 use mathlib.Core.Path.{_≡_, refl, sym, ap, _∙_, fun-ext}
 use mathlib.Core.List.{List, flatMap}
-use mathlib.Core.Option.{Option, none, some}
+use mathlib.Core.Option.{some}
 use mathlib.Core.Bool.{Bool, true, false, cond}
 use Prim.Native.Nat.{ℕ, _+_, _≤_, _<_}
 use native.Mathlib.Omega.{arith}
@@ -19,17 +19,9 @@ use Rattle.lists.specs.laws.Puts.{puts-none, puts-then}
 use Rattle.plan_rules.specs.Plan.{Plan}
 use Rattle.plan_rules.specs.Meaning.{initiators}
 use Rattle.box_rules.specs.State.{Side, idle}
-use Rattle.box_rules.specs.laws.Fit.{FitSide, idle-fit}
+use Rattle.box_rules.specs.laws.Fit.{FitSide}
 use Rattle.initiators.specs.Run.{sideOf, changed, rowsWith, runOf}
-use Rattle.initiators.specs.laws.RunSides.{side-at}
-
-pub side-fit : (p : Plan) (side : ℕ → Side) → ((i : ℕ) → FitSide (side i)) → (r : ℕ) → FitSide (sideOf p side r)
-unfolding sideOf
-side-fit p side f r = go (atPlace r (initiators p))
-  where
-    go : (o : Option ℕ) → FitSide (elim o [ none ↦ idle | some i ↦ side i ])
-    go none = idle-fit
-    go (some i) = f i
+use Rattle.initiators.specs.laws.RunSides.{side-fit, side-at}
 
 no-side : (p : Plan) (side : ℕ → Side) (r : ℕ) → length (initiators p) ≤ r → sideOf p side r ≡ idle
 unfolding sideOf

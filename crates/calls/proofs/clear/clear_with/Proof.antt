@@ -1,6 +1,6 @@
 -- `calls::clear::clear_with` meets its contract. Assumes nothing.
 use borrow.Author.Needs.{needs}
-use Rattle.calls.specs.laws.Boxes.{clear-leaves}
+use Rattle.calls.specs.laws.Boxes.{holds-cleared}
 use Rattle.calls.proofs.clear.clear_with.Statement.{statement}
 use Rattle.calls.proofs.clear.clear_with.Tie as tie
 
@@ -16,7 +16,7 @@ cleared-watchdog-requires c κs = search needs
 returns : tie.Need-returns
 returns c =
     let r = c .before .clear-run .ensures in
-    record { holds = clear-leaves (r .0) (r .1) (c .before .before .before .before .clear .ensures); five = c .cleared-watchdog .ensures }
+    record { holds = (holds-cleared .1) (c .before .before .before .before .clear .ensures, r .0, r .1); five = c .cleared-watchdog .ensures }
 
 pub clear-with-spec : {M : Type 1} → statement M
 clear-with-spec = tie.close (tie.spec clear-requires clear-run-requires cleared-watchdog-requires returns)

@@ -1,6 +1,6 @@
 -- `calls::load::load_with` meets its contract. Assumes nothing.
 use borrow.Author.Needs.{needs}
-use Rattle.calls.specs.laws.Boxes.{load-leaves, load-watchdog}
+use Rattle.calls.specs.laws.Boxes.{holds-loaded, load-watchdog}
 use Rattle.calls.proofs.load.load_with.Statement.{statement}
 use Rattle.calls.proofs.load.load_with.Tie as tie
 
@@ -20,7 +20,7 @@ returns : tie.Need-returns
 returns c =
     let r = c .before .before .clear-run .ensures in
     let l = c .before .before .before .before .before .load .ensures in
-    record { verdict = l .0; holds = load-leaves (r .0) (r .1) _ (l .1); five = load-watchdog _ (l .1 .numbers) }
+    record { verdict = l .0; holds = holds-loaded _ (l .1) (r .0) (r .1); five = load-watchdog _ (l .1 .numbers) }
 
 pub load-with-spec : {M : Type 1} → statement M
 load-with-spec =

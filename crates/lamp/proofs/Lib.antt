@@ -1,0 +1,4 @@
+pub mod Answers
+pub mod Sames
+pub mod Blanks
+pub mod Rereads
