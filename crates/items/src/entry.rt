@@ -1,21 +1,21 @@
 // An entry: judged after the plan so far, and put at its row and slot.
 ghost use mathlib.Core.Path.{_≡_};
+ghost use mathlib.Core.List.{List};
 ghost use Prim.Native.Nat.{ℕ, _<_};
 ghost use lib.ListN.{length};
+ghost use Rattle.lists.specs.Search.{any};
 ghost use Rattle.plan_rules.specs.Plan.{Plan};
-ghost use Rattle.plan_rules.specs.Judge.{outOfRange};
+ghost use Rattle.plan_rules.specs.Judge.{over63, outOfRange};
 ghost use Rattle.plan_rules.specs.laws.Fair.{Fair};
 ghost use Rattle.plan_memory.specs.Memory.{setsOf, rowsOf, reachOf, spansOf, aimsOf, numbersWith};
 ghost use Rattle.plan_memory.specs.Take.{itemFault, taken, entryItem};
 use crate::rows::at_most_8;
 use crate::rows::row_of;
-use crate::several::all_in;
-use crate::several::any_over_63;
-use crate::several::has_twice;
+use crate::several::gather;
 
-// Verdict 6 of an entry.
-fn entry_range(initiator: u8, slot: u8, span: u8, targets: &[u8]) -> bool
-    ensures { λ r. ⌜ r ≡ outOfRange (entryItem initiator slot span (now (targets .entry))) ⌝ }
+// Verdict 6 of an entry, over being whether a target is over 63.
+fn entry_range(initiator: u8, slot: u8, span: u8, over: bool) -> bool
+    ensures { λ r. ⌜ ((targets : List ℕ) → over ≡ any over63 targets → r ≡ outOfRange (entryItem initiator slot span targets)) ⌝ }
 {
     if 63 < initiator {
         return true;
@@ -29,7 +29,7 @@ fn entry_range(initiator: u8, slot: u8, span: u8, targets: &[u8]) -> bool
     if 16 < span {
         return true;
     }
-    any_over_63(targets)
+    over
 }
 
 // The verdict on the entry, 0 for none, and then spans, aims and numbers have it. An entry has a target at least.
@@ -53,7 +53,8 @@ pub fn entry(
         × (now (aims .exit) ≡ aimsOf (taken p (entryItem initiator slot span (now (targets .entry)))))
         × (now (numbers .exit) ≡ numbersWith size (taken p (entryItem initiator slot span (now (targets .entry)))))) ⌝ }
 {
-    if entry_range(initiator, slot, span, targets) {
+    let g = gather(targets);
+    if entry_range(initiator, slot, span, g.over) {
         return 6;
     }
     let count = numbers[2];
@@ -65,24 +66,24 @@ pub fn entry(
             return 7;
         }
     }
-    if has_twice(targets) {
+    if g.again {
         return 7;
     }
     let nodes = sets[0];
     if !sets::has(nodes, initiator) {
         return 8;
     }
-    if !all_in(nodes, targets) {
+    if !sets::within(g.set, nodes) {
         return 8;
     }
     if !known {
         return 11;
     }
-    if !all_in(reach[row], targets) {
+    if !sets::within(g.set, reach[row]) {
         return 11;
     }
     spans[at] = span;
-    aims[at] = sets::set_of(targets);
+    aims[at] = g.set;
     let entries = numbers[4];
     numbers[4] = std::num::wrapping_add_u32(entries, 1);
     0

@@ -1,53 +1,43 @@
-// Tests over the numbers of a field: one over 63, one that stands twice, all of them in a set.
+// The numbers of a field, gone through once.
 ghost use mathlib.Core.Path.{_≡_};
 ghost use mathlib.Core.Bool.{false};
 ghost use Prim.Native.Nat.{ℕ};
-ghost use Rattle.lists.specs.Search.{any, all, twice};
-ghost use Rattle.sets.specs.Set.{member};
+ghost use Rattle.lists.specs.Search.{any, twice};
+ghost use Rattle.sets.specs.Set.{member, listed};
 ghost use Rattle.plan_rules.specs.Judge.{over63};
 
-// Whether some number is over 63.
-pub fn any_over_63(s: &[u8]) -> bool
-    ensures { λ r. ⌜ r ≡ any over63 (now (s .entry)) ⌝ }
-{
-    let mut k = 0;
-    while k < s.len() {
-        if 63 < s[k] {
-            return true;
-        }
-        k += 1;
-    }
-    false
+// What one pass over the numbers of a field tells: whether one is over 63, and, where none is, whether one stands twice, and their set.
+pub struct Gathered {
+    pub over: bool,
+    pub again: bool,
+    pub set: u64,
 }
 
-// Whether every number is in the set.
-pub fn all_in(set: u64, s: &[u8]) -> bool
-    ensures { λ r. ⌜ r ≡ all (λ (n : ℕ). member n set) (now (s .entry)) ⌝ }
+pub fn gather(s: &[u8]) -> Gathered
+    ensures { λ r. ⌜ (r .over ≡ any over63 (now (s .entry))) × (any over63 (now (s .entry)) ≡ false →
+        (r .again ≡ twice (now (s .entry))) × ((k : ℕ) → member k (r .set) ≡ listed (now (s .entry)) k)) ⌝ }
 {
-    let mut k = 0;
-    while k < s.len() {
-        if !sets::has(set, s[k]) {
-            return false;
-        }
-        k += 1;
-    }
-    true
-}
-
-// Whether some number stands twice, none being over 63.
-pub fn has_twice(s: &[u8]) -> bool
-    requires { ⌜ any over63 (now s) ≡ false ⌝ }
-    ensures { λ r. ⌜ r ≡ twice (now (s .entry)) ⌝ }
-{
-    let mut seen: u64 = 0;
+    let mut again = false;
+    let mut set: u64 = 0;
     let mut k = 0;
     while k < s.len() {
         let n = s[k];
-        if sets::has(seen, n) {
-            return true;
+        if 63 < n {
+            return Gathered {
+                over: true,
+                again,
+                set,
+            };
         }
-        seen = sets::add(seen, n);
+        if sets::has(set, n) {
+            again = true;
+        }
+        set = sets::add(set, n);
         k += 1;
     }
-    false
+    Gathered {
+        over: false,
+        again,
+        set,
+    }
 }

@@ -1,7 +1,8 @@
 -- What keeping a path does to the memory: where its row and its bytes go, and what the arrays hold afterwards.
-use Prim.Native.Nat.{ℕ, _+_, _*_, min}
+use mathlib.Core.Path.{_≡_}
+use Prim.Native.Nat.{ℕ, _+_, _*_, _≤_, _<_, min}
 use mathlib.Core.List.{List, [], _∷_}
-use mathlib.Core.Bool.{Bool, _&&_, _||_, cond}
+use mathlib.Core.Bool.{Bool, true, false, _&&_, _||_, cond}
 use lib.ListN.{set}
 use lib.Dec.{ltb, eqb}
 use Rattle.lists.specs.Numbers.{firstFrom}
@@ -40,19 +41,25 @@ route i t ls = record { initiator = i; target = t; links = ls }
 unfoldable pub precedes : ℕ → ℕ → ℕ → ℕ → Bool
 precedes i t j u = ltb i j || eqb i j && ltb t u
 
--- the place of a path from i to t among the first count paths: before the first that it precedes
-abbrev pub pathPlace : List ℕ → ℕ → ℕ → ℕ → ℕ
-pathPlace paths count i t = firstFrom count 0 (λ (k : ℕ). precedes i t (nth paths (k * 11)) (nth paths (k * 11 + 1)))
+-- it stands before path k
+abbrev pub precedesAt : List ℕ → ℕ → ℕ → ℕ → Bool
+precedesAt paths i t k = precedes i t (nth paths (k * 11)) (nth paths (k * 11 + 1))
 
--- with the path: its target in the reach of its row, its eleven bytes at its place, one path more
+-- m is its place among the first count paths: it stands behind the first m and before the others
+pub record IsPlace (paths : List ℕ) (count i t m : ℕ) : Type 0 where
+  pub within : m ≤ count
+  pub less : (k : ℕ) → k < m → precedesAt paths i t k ≡ false
+  pub more : (k : ℕ) → m ≤ k → k < count → precedesAt paths i t k ≡ true
+
+-- with the path: its target in the reach of its row, its eleven bytes at the place m, one path more
 unfoldable pub keptReach : List ℕ → List ℕ → ℕ → Route → List ℕ
 keptReach rows reach count x =
     let r = ownRow rows count (x .initiator) in
     let own = withRow rows count (x .initiator) 0 reach in
     set own r (packed (added (x .target) (nth own r)))
 
-unfoldable pub keptPaths : List ℕ → ℕ → Route → List ℕ
-keptPaths paths count x = putIn (pathPlace paths count (x .initiator) (x .target) * 11) (count * 11) (pathRow x) paths
+unfoldable pub keptPaths : List ℕ → ℕ → ℕ → Route → List ℕ
+keptPaths paths count m x = putIn (m * 11) (count * 11) (pathRow x) paths
 
 unfoldable pub keptNumbers : List ℕ → List ℕ → ℕ → List ℕ
 keptNumbers rows numbers i = set (withCount rows numbers i) 3 (nth numbers 3 + 1)

@@ -1,24 +1,24 @@
 // A path: judged after the plan so far, and put at its place in the order of writing out.
 ghost use mathlib.Core.Path.{_≡_};
-ghost use mathlib.Core.List.{[], _∷_};
+ghost use mathlib.Core.List.{List, [], _∷_};
 ghost use Prim.Native.Nat.{ℕ, _≤_, _<_};
 ghost use lib.ListN.{length};
 ghost use lib.Seq.{paste};
+ghost use Rattle.lists.specs.Search.{any};
 ghost use Rattle.lists.specs.Insert.{moved, putIn};
 ghost use Rattle.plan_rules.specs.Plan.{nth, Plan};
-ghost use Rattle.plan_rules.specs.Judge.{outOfRange};
+ghost use Rattle.plan_rules.specs.Judge.{over63, outOfRange};
 ghost use Rattle.plan_rules.specs.laws.Fair.{Fair};
 ghost use Rattle.plan_memory.specs.Memory.{setsOf, endsOf, rowsOf, reachOf, pathRow, pathsOf, numbersWith};
 ghost use Rattle.plan_memory.specs.Take.{itemFault, taken, pathItem};
-ghost use Rattle.paths.specs.Keep.{rowAmong, rowPlace, ownRow, withRow, withCount, route, pathPlace, keptReach, keptPaths, keptNumbers};
+ghost use Rattle.paths.specs.Keep.{rowAmong, rowPlace, ownRow, withRow, withCount, route, precedesAt, IsPlace, keptReach, keptPaths, keptNumbers};
 use crate::walk::is_walk;
 use items::rows::row_of;
-use items::several::all_in;
-use items::several::any_over_63;
+use items::several::gather;
 
-// Verdict 6 of a path.
-fn path_range(initiator: u8, target: u8, links: &[u8]) -> bool
-    ensures { λ r. ⌜ r ≡ outOfRange (pathItem initiator target (now (links .entry))) ⌝ }
+// Verdict 6 of a path, over being whether a link is over 63.
+fn path_range(initiator: u8, target: u8, over: bool) -> bool
+    ensures { λ r. ⌜ ((links : List ℕ) → over ≡ any over63 links → r ≡ outOfRange (pathItem initiator target links)) ⌝ }
 {
     if 63 < initiator {
         return true;
@@ -26,32 +26,35 @@ fn path_range(initiator: u8, target: u8, links: &[u8]) -> bool
     if 63 < target {
         return true;
     }
-    if any_over_63(links) {
+    if over {
         return true;
     }
     initiator == target
 }
 
-// The verdict on the path, 0 for none. Where it is 0 there is a row for the initiator or room for one, and room for the path.
+// The verdict on the path, 0 for none; row is what the search for the initiator's row found. Where the verdict is 0 there is a row for the
+// initiator or room for one, and room for the path.
 fn path_fault(
     sets: &[u64; 3],
     ends: &[u8; 128],
     rows: &[u8; 8],
     reach: &[u64; 8],
     numbers: &[u32; 6],
+    row: usize,
     initiator: u8,
     target: u8,
     links: &[u8],
 ) -> u8
+    requires { ⌜ row ≡ rowAmong (now rows) (nth (now numbers) 2) initiator ⌝ }
     ensures { λ r. ⌜ ((size : ℕ) (p : Plan) → Fair p → now (sets .entry) ≡ setsOf p → now (ends .entry) ≡ endsOf p →
         now (rows .entry) ≡ rowsOf p → now (reach .entry) ≡ reachOf p → now (numbers .entry) ≡ numbersWith size p →
         r ≡ itemFault p (pathItem initiator target (now (links .entry)))) ⌝ }
-    ensures { λ r. ⌜ (r ≡ 0 → (rowAmong (now (rows .entry)) (nth (now (numbers .entry)) 2) initiator < 8) × (nth (now (numbers .entry)) 3 < 128)) ⌝ }
+    ensures { λ r. ⌜ (r ≡ 0 → (row < 8) × (nth (now (numbers .entry)) 3 < 128)) ⌝ }
 {
-    if path_range(initiator, target, links) {
+    let g = gather(links);
+    if path_range(initiator, target, g.over) {
         return 6;
     }
-    let row = row_of(rows, numbers[2], initiator);
     if row < 8 {
         if sets::has(reach[row], target) {
             return 7;
@@ -64,7 +67,7 @@ fn path_fault(
     if !sets::has(nodes, target) {
         return 8;
     }
-    if !all_in(sets[2], links) {
+    if !sets::within(g.set, sets[2]) {
         return 8;
     }
     if 8 <= row {
@@ -102,9 +105,15 @@ fn insert_row(rows: &mut [u8; 8], reach: &mut [u64; 8], count: usize, initiator:
     k
 }
 
-// The row of the initiator, which is made where it has none.
-fn own_row(rows: &mut [u8; 8], reach: &mut [u64; 8], numbers: &mut [u32; 6], initiator: u8) -> usize
-    requires { ⌜ rowAmong (now rows) (nth (now numbers) 2) initiator < 8 ⌝ }
+// The row of the initiator, which is made where the search for it found none.
+fn own_row(
+    rows: &mut [u8; 8],
+    reach: &mut [u64; 8],
+    numbers: &mut [u32; 6],
+    row: usize,
+    initiator: u8,
+) -> usize
+    requires { ⌜ (row ≡ rowAmong (now rows) (nth (now numbers) 2) initiator) × (row < 8) ⌝ }
     ensures { λ r. ⌜ (r < 8)
         × (now (numbers .exit) ≡ withCount (now (rows .entry)) (now (numbers .entry)) initiator)
         × (length (now (rows .entry)) ≡ 8 → length (now (reach .entry)) ≡ 8 →
@@ -113,7 +122,6 @@ fn own_row(rows: &mut [u8; 8], reach: &mut [u64; 8], numbers: &mut [u32; 6], ini
         × (now (reach .exit) ≡ withRow (now (rows .entry)) (nth (now (numbers .entry)) 2) initiator 0 (now (reach .entry)))) ⌝ }
 {
     let count = numbers[2];
-    let row = row_of(rows, count, initiator);
     if row as u32 != count {
         return row;
     }
@@ -121,26 +129,41 @@ fn own_row(rows: &mut [u8; 8], reach: &mut [u64; 8], numbers: &mut [u32; 6], ini
     insert_row(rows, reach, row, initiator)
 }
 
-// How many of the first count paths stand before (initiator, target) in the order of writing out.
+// Whether a path from initiator to target stands before path k in the order of writing out.
+fn stands_before(paths: &[u8; 1408], k: usize, initiator: u8, target: u8) -> bool
+    requires { ⌜ k < 128 ⌝ }
+    ensures { λ r. ⌜ r ≡ precedesAt (now (paths .entry)) initiator target k ⌝ }
+{
+    let i = paths[k * 11];
+    if i == initiator {
+        return target < paths[k * 11 + 1];
+    }
+    initiator < i
+}
+
+// How many of the first count paths, which stand in order, stand before a path from initiator to target. The last is tried first, so that a
+// file that gives its paths in order needs no search.
 fn place_of(paths: &[u8; 1408], count: usize, initiator: u8, target: u8) -> usize
     requires { ⌜ count ≤ 128 ⌝ }
-    ensures { λ r. ⌜ r ≡ pathPlace (now (paths .entry)) count initiator target ⌝ }
+    ensures { λ r. ⌜ (r ≤ count) × ((m : ℕ) → IsPlace (now (paths .entry)) count initiator target m → r ≡ m) ⌝ }
 {
-    let mut k = 0;
-    while k < count {
-        let i = paths[k * 11];
-        if initiator < i {
-            return k;
-        }
-        if i == initiator {
-            let t = paths[k * 11 + 1];
-            if target < t {
-                return k;
-            }
-        }
-        k += 1;
+    if count == 0 {
+        return 0;
     }
-    k
+    let mut low = 0;
+    let mut high = count - 1;
+    if !stands_before(paths, high, initiator, target) {
+        return count;
+    }
+    while low < high {
+        let middle = (low + high) / 2;
+        if stands_before(paths, middle, initiator, target) {
+            high = middle;
+        } else {
+            low = middle + 1;
+        }
+    }
+    low
 }
 
 // Moves the bytes from start to end eleven places on.
@@ -182,18 +205,20 @@ fn keep_path(
     reach: &mut [u64; 8],
     paths: &mut [u8; 1408],
     numbers: &mut [u32; 6],
+    row: usize,
     initiator: u8,
     target: u8,
     links: &[u8],
 )
-    requires { ⌜ (rowAmong (now rows) (nth (now numbers) 2) initiator < 8) × (nth (now numbers) 3 < 128) × (length (now links) ≤ 8) ⌝ }
+    requires { ⌜ (row ≡ rowAmong (now rows) (nth (now numbers) 2) initiator) × (row < 8) × (nth (now numbers) 3 < 128) × (length (now links) ≤ 8) ⌝ }
     ensures { λ _. ⌜ (length (now (rows .entry)) ≡ 8 → length (now (reach .entry)) ≡ 8 → length (now (paths .entry)) ≡ 1408 →
         (now (rows .exit) ≡ withRow (now (rows .entry)) (nth (now (numbers .entry)) 2) initiator initiator (now (rows .entry)))
         × (now (reach .exit) ≡ keptReach (now (rows .entry)) (now (reach .entry)) (nth (now (numbers .entry)) 2) (route initiator target (now (links .entry))))
-        × (now (paths .exit) ≡ keptPaths (now (paths .entry)) (nth (now (numbers .entry)) 3) (route initiator target (now (links .entry))))
+        × ((m : ℕ) → IsPlace (now (paths .entry)) (nth (now (numbers .entry)) 3) initiator target m →
+        now (paths .exit) ≡ keptPaths (now (paths .entry)) (nth (now (numbers .entry)) 3) m (route initiator target (now (links .entry))))
         × (now (numbers .exit) ≡ keptNumbers (now (rows .entry)) (now (numbers .entry)) initiator)) ⌝ }
 {
-    let row = own_row(rows, reach, numbers, initiator);
+    let row = own_row(rows, reach, numbers, row, initiator);
     reach[row] = sets::add(reach[row], target);
     let count = numbers[3];
     let n = count as usize;
@@ -225,10 +250,21 @@ pub fn path(
         × (now (paths .exit) ≡ pathsOf (taken p (pathItem initiator target (now (links .entry)))))
         × (now (numbers .exit) ≡ numbersWith size (taken p (pathItem initiator target (now (links .entry)))))) ⌝ }
 {
-    let fault = path_fault(sets, ends, rows, reach, numbers, initiator, target, links);
+    let row = row_of(rows, numbers[2], initiator);
+    let fault = path_fault(
+        sets,
+        ends,
+        rows,
+        reach,
+        numbers,
+        row,
+        initiator,
+        target,
+        links,
+    );
     if fault != 0 {
         return fault;
     }
-    keep_path(rows, reach, paths, numbers, initiator, target, links);
+    keep_path(rows, reach, paths, numbers, row, initiator, target, links);
     0
 }

@@ -8,14 +8,15 @@ ghost use Rattle.plan_rules.specs.Meaning.{isLink, isWalk};
 ghost use Rattle.plan_rules.specs.laws.Fair.{Fair};
 ghost use Rattle.plan_memory.specs.Memory.{setsOf, endsOf};
 
-// Whether the links, all of them links of the plan, lead from start to end.
+// Whether the links, all of them links of the plan, lead from start to end. (That all devices passed but the end are routers is one test of
+// sets, at the end.)
 pub fn is_walk(sets: &[u64; 3], ends: &[u8; 128], start: u8, links: &[u8], end: u8) -> bool
     ensures { λ r. ⌜ ((p : Plan) → Fair p → start < 64 → all (isLink p) (now (links .entry)) ≡ true →
         now (sets .entry) ≡ setsOf p → now (ends .entry) ≡ endsOf p →
         r ≡ isWalk p start (now (links .entry)) end) ⌝ }
 {
-    let routers = sets[1];
     let mut met = sets::add(0, start);
+    let mut passed: u64 = 0;
     let mut at = start;
     let mut k = 0;
     while k < links.len() {
@@ -35,14 +36,13 @@ pub fn is_walk(sets: &[u64; 3], ends: &[u8; 128], start: u8, links: &[u8], end: 
         if sets::has(met, next) {
             return false;
         }
-        if next != end {
-            if !sets::has(routers, next) {
-                return false;
-            }
-        }
         met = sets::add(met, next);
+        passed = sets::add(passed, next);
         at = next;
         k += 1;
     }
-    at == end
+    if at != end {
+        return false;
+    }
+    sets::within(passed, sets::add(sets[1], end))
 }

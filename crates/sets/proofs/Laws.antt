@@ -1,7 +1,7 @@
 -- From what the machine computes to what the contracts say: a law for each function that is not one of specs/Laws.antt already.
 -- Assumes nothing.
 use mathlib.Core.Path.{_≡_, refl, sym, ap, ap₂, _∙_}
-use mathlib.Core.Bool.{Bool, true, false, not, _&&_, _||_, and-true, and-false, and-or-distrib-right, false≢true}
+use mathlib.Core.Bool.{Bool, true, false, not, _&&_, _||_, and-true, and-false, and-self, and-or-distrib-right, false≢true}
 use mathlib.Core.List.{List}
 use Prim.Native.Nat.{ℕ, zero, suc, _+_, _-_, _*_, _/_, _%_, _^_, _≤_, _<_}
 use native.Mathlib.Nat.{mod-one, mod-lt, mod-eq-of-lt, one-mul, div-one}
@@ -9,14 +9,14 @@ use native.Mathlib.Numerals.{add-one, one-add}
 use native.Mathlib.Omega.{arith}
 use lib.Bits.{bitAnd}
 use lib.Count.{ones, ones-cat, trailingZeros, under}
-use lib.Dec.{eqb, ltb, lit<}
+use lib.Dec.{eqb, ltb, lit<, eqb·suc-zero, eqb·suc-suc}
 use lib.ListN.{length, getD, take}
 use lib.Pow.{pow-pos, shl-exact, shr-shr, mod-pow-add}
 use lib.Seq.{take-suc}
-use borrow.Author.Tests.{eqb-true, eq-eqb, ne-eqb, lt-ltb, le-ltb, ltb-false}
-use Rattle.sets.specs.Set.{member, members, alone, added, common, listed, disjointOf, leastOf, sizeOf}
-use Rattle.lists.specs.Numbers.{digit, countBelow, firstFrom}
-use Rattle.sets.specs.Laws.{bit-of, member-empty, member-single, member-beyond, member-and, member-flip, no-members, disjoint-common, disjoint-none}
+use borrow.Author.Tests.{eqb-true, eqb-false, eq-eqb, ne-eqb, lt-ltb, le-ltb, ltb-false}
+use Rattle.sets.specs.Set.{member, members, alone, added, common, listed, onlyIn, disjointOf, withinOf, leastOf, sizeOf}
+use Rattle.lists.specs.Numbers.{digit, anyBelow, countBelow, firstFrom}
+use Rattle.sets.specs.Laws.{bit-of, member-empty, member-lowest, member-suc, member-single, member-beyond, member-and, member-flip, no-members, least-in, least-before, least-lt, disjoint-common, disjoint-none}
 use Rattle.lists.specs.Search.{isIn}
 use Rattle.lists.specs.laws.Search.{isIn-snoc}
 
@@ -60,6 +60,21 @@ disjoint-word a b x ha hx m = go (disjointOf a b) refl
     go false e =
         let r = disjoint-common a b e in
         ne-eqb x 0 (λ z. false≢true (sym (member-empty (r .0)) ∙ ap (member (r .0)) (sym z) ∙ m (r .0) ∙ r .2))
+
+-- Tests that agree below n pass some number below n or none.
+below-same : (n : ℕ) (p q : ℕ → Bool) → ((k : ℕ) → k < n → p k ≡ q k) → anyBelow n p ≡ anyBelow n q
+unfolding anyBelow
+below-same zero p q f = refl
+below-same (suc n) p q f =
+    ap₂ (λ (b c : Bool). elim b [ true ↦ true | false ↦ c ]) (f n (omega arith)) (below-same n p q (λ k h. f k (omega arith)))
+
+-- What is disjoint from the complement of a word is within the word.
+pub within-word : (a b : ℕ) → b < 2 ^ 64 → disjointOf a ((2 ^ 64 - 1) - b) ≡ withinOf a b
+unfolding disjointOf withinOf
+within-word a b h = ap not (below-same 64 (common a ((2 ^ 64 - 1) - b)) (onlyIn a b) agree)
+  where
+    agree : (k : ℕ) → k < 64 → common a ((2 ^ 64 - 1) - b) k ≡ onlyIn a b k
+    agree k l = rw (member-flip 64 k b h, lt-ltb k 64 l)
 
 -- The zeros below the lowest digit 1 are as many as the numbers that the search passes.
 search-zeros : (n k s : ℕ) → k + trailingZeros n (s / 2 ^ k) ≡ firstFrom n k (members s)
@@ -110,3 +125,29 @@ listed-more s i r r′ h inv a k =
   where
     one-more : isIn k (take (i + 1) s) ≡ (eqb k (getD s i 0) || isIn k (take i s))
     one-more = ap (λ (j : ℕ). isIn k (take j s)) (add-one i) ∙ ap (isIn k) (take-suc s i 0 h) ∙ isIn-snoc k (take i s) (getD s i 0)
+
+-- One less has the digits of s above the lowest digit 1, and at that one a 0.
+one-less : (t s : ℕ) → member t s ≡ true → ((j : ℕ) → j < t → member j s ≡ false) → (k : ℕ) → common s (s - 1) k ≡ (not (eqb k t) && member k s)
+one-less zero s h b zero =
+    let odd : s % 2 ≡ 1 = eqb-true (s % 2) 1 (sym (member-lowest s) ∙ h) in
+    let even : (s - 1) % 2 ≡ 0 = omega arith in
+    rw (h, member-lowest (s - 1), even)
+one-less zero s h b (suc k) =
+    let odd : s % 2 ≡ 1 = eqb-true (s % 2) 1 (sym (member-lowest s) ∙ h) in
+    let half : (s - 1) / 2 ≡ s / 2 = omega arith in
+    rw (member-suc k s, member-suc k (s - 1), half, eqb·suc-zero k) (and-self (member k (s / 2)))
+one-less (suc t) s h b zero = rw (b 0 (omega arith), and-false (not (eqb 0 (suc t))))
+one-less (suc t) s h b (suc k) =
+    let even : (s % 2 ≡ 1) → ⊥ = eqb-false (s % 2) 1 (sym (member-lowest s) ∙ b 0 (omega arith)) in
+    let half : (s - 1) / 2 ≡ s / 2 - 1 = omega arith in
+    rw (member-suc k s, member-suc k (s - 1), half, eqb·suc-suc k t)
+    (one-less t (s / 2) (sym (member-suc t s) ∙ h) (λ j l. sym (member-suc j s) ∙ b (suc j) (omega arith)) k)
+
+-- So the digits 1 of both are the members of s but the least.
+pub least-out : (s : ℕ) → s < 2 ^ 64 → (s ≡ 0 → ⊥) → (k : ℕ) → member k (bitAnd s (s - 1)) ≡ (not (eqb k (leastOf s)) && member k s)
+least-out s h d k =
+    member-and k s (s - 1) ∙ one-less (leastOf s) s (least-in s (least-lt s h d)) (least-before s) k
+
+-- Nothing is taken out of the empty set.
+pub none-out : (s : ℕ) → s ≡ 0 → (k : ℕ) → member k 0 ≡ (not (eqb k (leastOf s)) && member k s)
+none-out s e k = rw (e, member-empty k) (sym (and-false (not (eqb k (leastOf 0)))))

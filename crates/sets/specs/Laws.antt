@@ -1,6 +1,7 @@
 -- Laws of sets, for the crates that use them: the members of a number, that they tell one word from another,
 -- and what the least member, the size and the test for common members say. Assumes nothing.
 use mathlib.Core.Path.{_≡_, refl, sym, ap, ap₂, _∙_}
+use mathlib.Core.List.{List, List·Memᴰ}
 use mathlib.Core.Bool.{Bool, true, false, not, _&&_, _||_, false≢true}
 use mathlib.Core.Logic.{_↔_, by-cases}
 use Prim.Native.Nat.{ℕ, zero, suc, _+_, _-_, _*_, _/_, _%_, _^_, _≤_, _<_, min, max}
@@ -12,10 +13,14 @@ use lib.Arith.{digits-mod}
 use lib.Bits.{bitAnd, bitOr, and-shr, or-shr, and-step, or-step}
 use lib.Dec.{eqb, ltb, eqb·zero-suc, eqb·suc-zero, eqb·suc-suc, leb·zero, leb·suc-zero, leb·suc-suc}
 use lib.Pow.{pow-mono, shr-shr}
-use borrow.Author.Tests.{eq-eqb, ne-eqb, not-true, not-false}
+use borrow.Author.Tests.{eqb-false, eq-eqb, ne-eqb, lt-ltb, not-true, not-false}
+use Rattle.lists.specs.Search.{all}
 use Rattle.lists.specs.Numbers.{digit, anyBelow, firstFrom}
-use Rattle.sets.specs.Set.{member, members, common, disjointOf, leastOf, sizeOf}
+use Rattle.lists.specs.laws.Bools.{both-true, true-both, not-both, same-test}
+use Rattle.lists.specs.laws.Search.{all-elim, all-intro, isIn-elim, isIn-intro}
 use Rattle.lists.specs.laws.Numbers.{Finds, any-true, any-false, first-from, digit-lt, count-le}
+use Rattle.lists.specs.laws.Sweep.{none-below}
+use Rattle.sets.specs.Set.{member, members, common, listed, onlyIn, disjointOf, withinOf, leastOf, sizeOf}
 
 -- The digit of s at the place k is that of the test for k.
 pub bit-of : (k s : ℕ) → s / 2 ^ k % 2 ≡ digit (member k s)
@@ -153,6 +158,22 @@ pub least-none : (s : ℕ) → s < 2 ^ 64 → (leastOf s ≡ 64) ↔ (s ≡ 0)
 unfolding leastOf firstFrom member
 least-none s h = (λ e. no-members s h (λ k l. least-before s k (omega arith)), λ e. ap leastOf e)
 
+-- It is below 64 for every other word.
+pub least-lt : (s : ℕ) → s < 2 ^ 64 → (s ≡ 0 → ⊥) → leastOf s < 64
+least-lt s h d =
+    let full : leastOf s ≡ 64 → ⊥ = λ e. d (least-none s h .0 e) in
+    omega (arith, least-le s)
+
+-- Without it the least member is a greater number.
+pub least-rises : (s r : ℕ) → leastOf s < 64 → ((k : ℕ) → member k r ≡ (not (eqb k (leastOf s)) && member k s)) → leastOf s < leastOf r
+least-rises s r l m = by-cases (decLt (leastOf s) (leastOf r)) (λ h. h) (λ h. absurd (go h))
+  where
+    go : (leastOf s < leastOf r → ⊥) → ⊥
+    go h =
+        let (a, b) = both-true (not (eqb (leastOf r) (leastOf s))) (member (leastOf r) s) (sym (m (leastOf r)) ∙ least-in r (omega arith)) in
+        let other : leastOf r ≡ leastOf s → ⊥ = eqb-false (leastOf r) (leastOf s) (not-true (eqb (leastOf r) (leastOf s)) a) in
+        not-both b (least-before s (leastOf r) (omega arith))
+
 -- A set has at most 64 members.
 pub size-le : (s : ℕ) → sizeOf s ≤ 64
 unfolding sizeOf
@@ -176,3 +197,22 @@ disjoint-none a b h = (apart, λ f. decided (disjointOf a b) refl f)
     decided : (c : Bool) → disjointOf a b ≡ c → ((k : ℕ) → common a b k ≡ false) → c ≡ true
     decided true e f = refl
     decided false e f = let r = disjoint-common a b e in absurd (false≢true (sym (f (r .0)) ∙ r .2))
+
+-- The set of a list of numbers below 64 is within b just where every number of the list is in b.
+pub within-listed : (xs : List ℕ) (a b : ℕ) → ((x : ℕ) → List·Memᴰ x xs → x < 64) → ((k : ℕ) → member k a ≡ listed xs k)
+    → withinOf a b ≡ all (λ (n : ℕ). member n b) xs
+unfolding withinOf
+within-listed xs a b low is = same-test _ _ (λ e. all-intro _ xs (there (not-true _ e))) (λ e. ap not (none-below 64 (onlyIn a b) (back e)))
+  where
+    there : anyBelow 64 (onlyIn a b) ≡ false → (x : ℕ) → List·Memᴰ x xs → member x b ≡ true
+    there e x m = not-false _ (rw (in-a) at (any-false 64 (onlyIn a b) e x (low x m)))
+      where
+        in-a : member x a ≡ true
+        in-a = is x ∙ true-both (isIn-intro x xs m) (lt-ltb x 64 (low x m))
+
+    back : all (λ (n : ℕ). member n b) xs ≡ true → (k : ℕ) → k < 64 → onlyIn a b k ≡ false
+    back e k l = go (member k a) refl
+      where
+        go : (c : Bool) → member k a ≡ c → c && not (member k b) ≡ false
+        go true h = ap not (all-elim (λ (n : ℕ). member n b) xs k e (isIn-elim k xs ((both-true _ _ (sym (is k) ∙ h)) .0)))
+        go false h = refl

@@ -1,3 +1,4 @@
 pub mod Set
 pub mod Laws
 pub mod Packed
+pub mod Walk

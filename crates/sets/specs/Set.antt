@@ -35,6 +35,14 @@ listed xs k = isIn k xs && ltb k 64
 unfoldable pub disjointOf : ℕ → ℕ → Bool
 disjointOf a b = not (anyBelow 64 (common a b))
 
+-- The number k is in a but not in b.
+abbrev pub onlyIn : ℕ → ℕ → ℕ → Bool
+onlyIn a b k = member k a && not (member k b)
+
+-- Every number of a is in b.
+unfoldable pub withinOf : ℕ → ℕ → Bool
+withinOf a b = not (anyBelow 64 (onlyIn a b))
+
 -- The least member of a set, and 64 for the empty set.
 unfoldable pub leastOf : ℕ → ℕ
 leastOf s = firstFrom 64 0 (members s)

@@ -4,7 +4,7 @@ ghost use mathlib.Core.Path.{_≡_};
 ghost use mathlib.Core.Bool.{not, _&&_, _||_};
 ghost use Prim.Native.Nat.{ℕ};
 ghost use lib.Dec.{eqb};
-ghost use Rattle.sets.specs.Set.{member, alone, added, common, listed, disjointOf, leastOf, sizeOf};
+ghost use Rattle.sets.specs.Set.{member, alone, added, common, listed, disjointOf, withinOf, leastOf, sizeOf};
 
 // Whether t is in s.
 pub fn has(s: u64, t: u8) -> bool
@@ -62,11 +62,25 @@ pub fn disjoint(a: u64, b: u64) -> bool
     both(a, b) == 0
 }
 
+// Whether every member of a is in b.
+pub fn within(a: u64, b: u64) -> bool
+    ensures { λ r. ⌜ r ≡ withinOf a b ⌝ }
+{
+    disjoint(a, !b)
+}
+
 // The least member of s, and 64 where s is empty.
 pub fn least(s: u64) -> u32
     ensures { λ r. ⌜ r ≡ leastOf s ⌝ }
 {
     u64::trailing_zeros(s)
+}
+
+// The set s without its least member.
+pub fn without_least(s: u64) -> u64
+    ensures { λ r. ⌜ ((k : ℕ) → member k r ≡ (not (eqb k (leastOf s)) && member k s)) ⌝ }
+{
+    if s == 0 { 0 } else { s & (s - 1) }
 }
 
 // How many members s has.

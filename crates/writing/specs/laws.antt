@@ -1,4 +1,5 @@
 pub mod Parts
+pub mod Eights
 pub mod Devices
 pub mod Links
 pub mod Paths

@@ -16,7 +16,7 @@ use Rattle.lists.specs.laws.Order.{inOrders-shuffled}
 use Rattle.lists.specs.laws.Padded.{padded-at}
 use Rattle.lists.specs.laws.Moved.{padded-putIn}
 use Rattle.lists.specs.laws.Chunks.{Wide, length-chunks, take-chunks, drop-chunks, chunk-at}
-use Rattle.lists.specs.laws.Insert.{Before, Placed, placed, inserted-orders, first-is}
+use Rattle.lists.specs.laws.Insert.{Before, Placed, placed, inserted-orders}
 use Rattle.plan_rules.specs.Plan.{nth, Route, Plan, path, grow}
 use Rattle.plan_rules.specs.Meaning.{leadsFrom, hasPath}
 use Rattle.plan_rules.specs.Judge.{givenBefore}
@@ -28,7 +28,7 @@ use Rattle.plan_rules.specs.laws.InRange.{path-ranged}
 use Rattle.plan_rules.specs.laws.Initiators.{most-grows}
 use Rattle.plan_rules.specs.laws.Ranges.{route-range}
 use Rattle.plan_memory.specs.Memory.{pathRow, pathsInOrder, pathsOf}
-use Rattle.paths.specs.Keep.{pathPlace, keptPaths}
+use Rattle.paths.specs.Keep.{IsPlace, keptPaths}
 use Rattle.paths.specs.laws.PathPlace.{before-precedes, behind-precedes, row-length}
 
 -- the paths of a fair plan in order: as many, each with eleven bytes
@@ -66,21 +66,23 @@ module _ (p : Plan) (f : Fair p) (x : Route) (g : Passes p (path x)) where
       placed x (inserted-orders (λ (y : Route). y .initiator) (λ (y : Route). y .target) (p .paths) x (r .initiator) (r .target)
       (λ y m a b. not-both (true-both (eq-eqb (x .initiator) (y .initiator) (sym a)) (eq-eqb (x .target) (y .target) (sym b))) (any-false (leadsFrom (x .initiator) (x .target)) (p .paths) y (g .new) m)))
 
-  path-place : pathPlace (pathsOf p) (length (p .paths)) (x .initiator) (x .target) ≡ inserted-path .place
+  pub path-place : IsPlace (pathsOf p) (length (p .paths)) (x .initiator) (x .target) (inserted-path .place)
   path-place =
-      let r = inserted-path in
-      let n = as-many p f in
-      first-is (length (p .paths)) (r .place) _ (omega (arith, r .within))
-      (λ j h. let b : j < length (p .paths) = omega (arith, r .within) in rw (initiator-at p f j x b, target-at p f j x b) (behind-precedes _ _ _ _ (r .less j h)))
-      (λ b. rw (initiator-at p f (r .place) x b, target-at p f (r .place) x b) (before-precedes _ _ _ _ (r .more (r .place) (omega arith) (omega arith))))
+      let r = inserted-path in record {
+        within = omega (arith, r .within, as-many p f);
+        less = λ j h.
+            let b : j < length (p .paths) = omega (arith, r .within, as-many p f) in
+            rw (initiator-at p f j x b, target-at p f j x b) (behind-precedes _ _ _ _ (r .less j h));
+        more = λ j h b. rw (initiator-at p f j x b, target-at p f j x b) (before-precedes _ _ _ _ (r .more j h (omega (arith, as-many p f))));
+      }
 
-  pub paths-kept : length (x .links) ≤ 8 → keptPaths (pathsOf p) (length (p .paths)) x ≡ pathsOf (grow p (path x))
+  pub paths-kept : length (x .links) ≤ 8 → keptPaths (pathsOf p) (length (p .paths)) (inserted-path .place) x ≡ pathsOf (grow p (path x))
   unfolding keptPaths pathsOf flatMap
   paths-kept l =
       let r = inserted-path in
       let w = wide p f in
       let B = flatMap pathRow (pathsInOrder p) in
       let n : length B ≡ length (p .paths) * 11 = omega (arith, length-chunks pathRow 11 (pathsInOrder p) w, as-many p f) in
-      rw (path-place, ← n)
+      rw (← n)
       (sym (padded-putIn 1408 (r .place * 11) 0 (pathRow x) B (omega (arith, r .within, as-many p f)) (omega (arith, row-length x l, most-grows p x (g .few))))
       ∙ ap (padded 1408 0) ((rw (take-chunks pathRow 11 (r .place) (pathsInOrder p) w, drop-chunks pathRow 11 (r .place) (pathsInOrder p) w)) ∙ sym (flat-append pathRow (take (r .place) (pathsInOrder p)) (x ∷ drop (r .place) (pathsInOrder p))) ∙ ap (flatMap pathRow) (sym (r .new))))

@@ -10,11 +10,11 @@ use Rattle.plan_rules.specs.Plan.{nth, Route, Plan, path}
 use Rattle.plan_rules.specs.laws.Fair.{Fair}
 use Rattle.plan_memory.specs.Memory.{rowsOf, reachOf, pathRow, pathsInOrder, pathsOf, numbersWith}
 use Rattle.plan_memory.specs.Take.{itemFault, taken}
-use Rattle.paths.specs.Keep.{withRow, keptReach, keptPaths, keptNumbers}
+use Rattle.paths.specs.Keep.{IsPlace, withRow, keptReach, keptPaths, keptNumbers}
 use Rattle.paths.specs.laws.Passed.{faultless, taken-grows}
 use Rattle.paths.specs.laws.KeptRows.{rows-kept, numbers-kept}
 use Rattle.paths.specs.laws.KeptReach.{reach-length, reach-kept}
-use Rattle.paths.specs.laws.KeptPaths.{wide, as-many, paths-kept}
+use Rattle.paths.specs.laws.KeptPaths.{wide, as-many, inserted-path, path-place, paths-kept}
 
 -- the arrays have their lengths
 module _ (p : Plan) (f : Fair p) where
@@ -31,7 +31,7 @@ abbrev pub Kept : List ℕ → List ℕ → List ℕ → List ℕ → Route → 
 Kept rows reach paths numbers x rows′ reach′ paths′ numbers′ =
     (rows′ ≡ withRow rows (nth numbers 2) (x .initiator) (x .initiator) rows)
     × (reach′ ≡ keptReach rows reach (nth numbers 2) x)
-    × (paths′ ≡ keptPaths paths (nth numbers 3) x)
+    × ((m : ℕ) → IsPlace paths (nth numbers 3) (x .initiator) (x .target) m → paths′ ≡ keptPaths paths (nth numbers 3) m x)
     × (numbers′ ≡ keptNumbers rows numbers (x .initiator))
 
 pub kept-plan : (size : ℕ) (p : Plan) → Fair p → (x : Route) → 0 ≡ itemFault p (path x) → length (x .links) ≤ 8
@@ -50,6 +50,6 @@ kept-plan size p f x z l a b c d h =
       z,
       k .0 ∙ (rw (a, d) (rows-kept p f x g)),
       k .1 ∙ (rw (a, b, d) (reach-kept p f x g)),
-      k .2 ∙ (rw (c, d) (paths-kept p f x g l)),
+      k .2 (inserted-path p f x g .place) (rw (c, d) (path-place p f x g)) ∙ (rw (c, d) (paths-kept p f x g l)),
       k .3 ∙ (rw (a, d) (numbers-kept p f x g size)),
     )

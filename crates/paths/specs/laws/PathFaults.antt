@@ -10,7 +10,7 @@ use lib.Dec.{eqb, leb}
 use borrow.Author.Tests.{lt-ltb, le-ltb, le-leb, lt-leb}
 use Rattle.lists.specs.Search.{any, all}
 use Rattle.lists.specs.Rows.{firstOf}
-use Rattle.lists.specs.laws.Bools.{same-test}
+use Rattle.lists.specs.laws.Bools.{neither, same-test}
 use Rattle.lists.specs.laws.Search.{all-elim, all-intro}
 use Rattle.lists.specs.laws.Padded.{at-member}
 use Rattle.sets.specs.Set.{member}
@@ -43,6 +43,10 @@ module _ (i t : ℕ) (ls : List ℕ) where
   pub range-ends : i ≤ 63 → t ≤ 63 → any over63 ls ≡ false → eqb i t ≡ outOfRange (pathItem i t ls)
   unfolding outOfRange over63
   range-ends h g e = rw (e, le-ltb 63 i h, le-ltb 63 t g)
+
+  pub links-inside : outOfRange (pathItem i t ls) ≡ false → any over63 ls ≡ false
+  unfolding outOfRange
+  links-inside h = (neither (over63 i || over63 t) (any over63 ls) ((neither _ (eqb i t) h) .0)) .1
 
 -- the row that decides
 module _ (p : Plan) (i t : ℕ) (ls : List ℕ) where

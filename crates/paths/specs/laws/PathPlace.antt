@@ -2,20 +2,22 @@
 use mathlib.Core.Path.{_≡_, sym, ap, _∙_}
 use mathlib.Core.Logic.{_≢_, inl, inr}
 use mathlib.Core.List.{List}
-use mathlib.Core.Bool.{true, false}
-use Prim.Native.Nat.{ℕ, _+_, _*_, _≤_, _<_}
+use mathlib.Core.Bool.{true, false, or-false}
+use Prim.Native.Nat.{ℕ, _*_, _≤_, _<_}
+use native.Mathlib.Decide.{decLt}
 use native.Mathlib.Omega.{arith}
 use lib.ListN.{length}
 use lib.Seq.{paste}
+use lib.Dec.{ltb}
 use borrow.Author.Tests.{lt-ltb, le-ltb, eq-eqb, ne-eqb}
 use Rattle.lists.specs.Insert.{moved}
-use Rattle.lists.specs.laws.Numbers.{first-from}
+use Rattle.lists.specs.laws.Bools.{not-both}
 use Rattle.lists.specs.laws.Cells.{length-padded}
 use Rattle.lists.specs.laws.Moved.{length-moved, moved-put}
 use Rattle.lists.specs.laws.Insert.{Before}
-use Rattle.plan_rules.specs.Plan.{nth, Route}
+use Rattle.plan_rules.specs.Plan.{Route}
 use Rattle.plan_memory.specs.Memory.{pathRow}
-use Rattle.paths.specs.Keep.{precedes, pathPlace, keptPaths}
+use Rattle.paths.specs.Keep.{precedes, precedesAt, IsPlace, keptPaths}
 
 -- which of two paths stands first
 module _ (i t j u : ℕ) where
@@ -35,6 +37,15 @@ module _ (i t j u : ℕ) where
   unfolding precedes
   later-target e h = rw (le-ltb i j (omega arith), eq-eqb i j (sym e), le-ltb t u h)
 
+  -- the comparison that decides
+  pub by-target : j ≡ i → ltb t u ≡ precedes i t j u
+  unfolding precedes
+  by-target e = rw (le-ltb i j (omega arith), eq-eqb i j (sym e))
+
+  pub by-initiator : j ≢ i → ltb i j ≡ precedes i t j u
+  unfolding precedes
+  by-initiator d = rw (ne-eqb i j (λ e. d (sym e))) (sym (or-false (ltb i j)))
+
   pub before-precedes : Before i t j u → precedes i t j u ≡ true
   before-precedes (inl h) = precedes-initiator h
   before-precedes (inr (e, h)) = precedes-target (sym e) h
@@ -48,15 +59,30 @@ pub row-length : (x : Route) → length (x .links) ≤ 8 → length (pathRow x) 
 unfolding pathRow
 row-length x h = omega (arith, length-padded 8 0 (x .links) h)
 
-pub place-upto : (paths : List ℕ) (n i t : ℕ) → pathPlace paths n i t ≤ n
-place-upto paths n i t = omega (arith, (first-from n 0 (λ (k : ℕ). precedes i t (nth paths (k * 11)) (nth paths (k * 11 + 1)))) .upto)
+-- what one test tells of the place
+module _ {paths : List ℕ} {count i t m : ℕ} (p : IsPlace paths count i t m) (k : ℕ) where
+  pub place-upto : precedesAt paths i t k ≡ true → m ≤ k
+  place-upto e = go (decLt k m)
+    where
+      go : Dec (k < m) → m ≤ k
+      go (yes h) = not-both e (p .less k h)
+      go (no h) = omega arith
+
+  pub place-past : k < count → precedesAt paths i t k ≡ false → k < m
+  place-past l e = go (decLt k m)
+    where
+      go : Dec (k < m) → k < m
+      go (yes h) = h
+      go (no h) = not-both (p .more k (omega arith) l) e
 
 -- room made at the path's place, and its bytes put there
-pub paths-stored : (paths qs rs : List ℕ) (m n k : ℕ) (x : Route) → length paths ≡ 1408 → length (x .links) ≤ 8 → m ≡ n → n < 128 → k ≡ pathPlace paths m (x .initiator) (x .target)
-    → (length paths ≡ 1408 → qs ≡ moved 11 (k * 11) (m * 11) paths) → (length qs ≡ 1408 → rs ≡ paste qs (k * 11) (pathRow x) 11) → rs ≡ keptPaths paths n x
+pub paths-stored : (paths qs rs : List ℕ) (c n k : ℕ) (x : Route) → length paths ≡ 1408 → length (x .links) ≤ 8 → c ≡ n → n < 128
+    → (k ≤ c) × ((m : ℕ) → IsPlace paths c (x .initiator) (x .target) m → k ≡ m)
+    → (length paths ≡ 1408 → qs ≡ moved 11 (k * 11) (c * 11) paths) → (length qs ≡ 1408 → rs ≡ paste qs (k * 11) (pathRow x) 11)
+    → (m : ℕ) → IsPlace paths n (x .initiator) (x .target) m → rs ≡ keptPaths paths n m x
 unfolding keptPaths
-paths-stored paths qs rs m n k x e l q h f g r =
-    let u : k ≤ m = omega (arith, place-upto paths m (x .initiator) (x .target)) in
+paths-stored paths qs rs c n k x e l q h f g r m p =
     let a = g e in
-    let b : length qs ≡ 1408 = ap length a ∙ length-moved 11 (k * 11) (m * 11) paths (omega arith) (omega arith) ∙ e in
-    r b ∙ ap (λ (l : List ℕ). paste l (k * 11) (pathRow x) 11) a ∙ moved-put 11 (k * 11) (m * 11) (pathRow x) paths (row-length x l) (omega arith) (omega arith) ∙ (rw (f, q))
+    let b : length qs ≡ 1408 = ap length a ∙ length-moved 11 (k * 11) (c * 11) paths (omega arith) (omega arith) ∙ e in
+    let d : k ≡ m = f .1 m (rw q p) in
+    r b ∙ ap (λ (l : List ℕ). paste l (k * 11) (pathRow x) 11) a ∙ moved-put 11 (k * 11) (c * 11) (pathRow x) paths (row-length x l) (omega arith) (omega arith) ∙ (rw (d, q))

@@ -1,23 +1,24 @@
 -- A walk over the memory: what the two ends of a link say of where it leads, and a walk taken link by link with the devices met as a set.
 use mathlib.Core.Path.{_≡_, refl, sym, ap, _∙_}
-use mathlib.Core.Logic.{_≢_, _⊎_, inl, inr}
-use mathlib.Core.List.{List, [], _∷_}
+use mathlib.Core.Logic.{_≢_}
+use mathlib.Core.List.{List, [], _∷_, List·Memᴰ, List·Memᴰ·head, List·Memᴰ·tail, List·Memᴰ·not-nil}
 use mathlib.Core.Option.{Option, none, some}
-use mathlib.Core.Bool.{Bool, true, false, not, _&&_, _||_, cond, and-true, and-false, or-true}
+use mathlib.Core.Bool.{Bool, true, false, not, _&&_, _||_, cond, and-true, and-false, and-or-distrib-right}
 use Prim.Native.Nat.{ℕ, suc, _+_, _*_, _/_, _%_, _<_, _≤_, min, max}
 use native.Mathlib.Nat.{add-zero}
 use native.Mathlib.Omega.{arith}
 use lib.ListN.{length, drop, drop-of-length-le}
 use lib.Seq.{drop-cons}
-use lib.Dec.{eqb}
+use lib.Dec.{eqb, ltb}
 use borrow.Author.Tests.{eq-eqb, ne-eqb, eqb-true, lt-ltb}
 use Rattle.lists.specs.Search.{any, all, find, isIn}
 use Rattle.lists.specs.laws.Bools.{some-some, none-some}
 use Rattle.lists.specs.laws.Search.{any-elim, all-elim, find-some, find-has}
+use Rattle.lists.specs.laws.More.{all-same}
 use Rattle.lists.specs.laws.Cells.{cell-at}
 use Rattle.lists.specs.laws.Padded.{in-list}
-use Rattle.sets.specs.Set.{member, added}
-use Rattle.sets.specs.Laws.{member-empty}
+use Rattle.sets.specs.Set.{member, added, listed, withinOf}
+use Rattle.sets.specs.Laws.{member-empty, within-listed}
 use Rattle.sets.specs.Packed.{member-packed-below}
 use Rattle.plan_rules.specs.Plan.{nth, Link, Plan, link}
 use Rattle.plan_rules.specs.Meaning.{hasKind, isRouter, isLink, across, leads, walks, isWalk}
@@ -99,31 +100,63 @@ pub walking : {p : Plan} {sets′ ends′ : List ℕ} {start : ℕ} {links : Lis
     → Walking p sets′ ends′ start links
 walking f h g a b = record { fair = f; from = h; known = g; sets = a; ends = b }
 
--- where a walk stands after k links: at a device, with the devices met as a set; what is walked from here is the whole
-pub record Stands (p : Plan) (start : ℕ) (links : List ℕ) (end met at k : ℕ) : Type 0 where
-  pub passed : List ℕ
-  pub marks : (m : ℕ) → m < 64 → member m met ≡ isIn m passed
-  pub whole : isWalk p start links end ≡ walks p passed at (drop k links) end
+-- a device may be passed: it is the end or a router
+abbrev pub passable : Plan → ℕ → ℕ → Bool
+passable p end d = eqb d end || isRouter p d
+
+-- where a walk stands after k links: at a device, with the devices met, and those behind the start, as sets; those behind the start may be
+-- passed and what is walked from here is a walk just where the whole is
+pub record Stands (p : Plan) (start : ℕ) (links : List ℕ) (end met passed at k : ℕ) : Type 0 where
+  pub before : List ℕ
+  pub marks : (m : ℕ) → m < 64 → member m met ≡ isIn m before
+  pub behind : List ℕ
+  pub low : (m : ℕ) → List·Memᴰ m behind → m < 64
+  pub signs : (m : ℕ) → member m passed ≡ listed behind m
+  pub whole : isWalk p start links end ≡ all (passable p end) behind && walks p before at (drop k links) end
 
 pub added-below : (t s m : ℕ) → m < 64 → added t s m ≡ (eqb m t || member m s)
 added-below t s m h = rw (lt-ltb m 64 h) (ap (λ b. b || member m s) (and-true (eqb m t)))
 
-pub stands-first : {p : Plan} {start : ℕ} {links : List ℕ} {end met : ℕ} → ((m : ℕ) → member m met ≡ added start 0 m) → Stands p start links end met start 0
-unfolding isWalk isIn any
+pub stands-first : {p : Plan} {start : ℕ} {links : List ℕ} {end met : ℕ} → ((m : ℕ) → member m met ≡ added start 0 m) → Stands p start links end met 0 start 0
+unfolding isWalk isIn any all
 stands-first {start} a = record {
-  passed = start ∷ [];
+  before = start ∷ [];
   marks = λ m h. a m ∙ added-below start 0 m h ∙ (rw (member-empty m));
+  behind = [];
+  low = λ m i. absurd (List·Memᴰ·not-nil i);
+  signs = member-empty;
   whole = refl;
 }
 
--- at the end
-pub stands-last : {p : Plan} {start : ℕ} {links : List ℕ} {end met at k : ℕ} → length links ≤ k → Stands p start links end met at k → eqb at end ≡ isWalk p start links end
-unfolding walks
-stands-last {links} h s = sym (s .whole ∙ (rw (drop-of-length-le links h)))
+-- a walk that stops is none
+stopped : {x b : Bool} (a : Bool) → x ≡ a && b → b ≡ false → false ≡ x
+stopped a e f = sym (e ∙ ap (λ c. a && c) f ∙ and-false a)
+
+-- the device that is passed next joins those behind the start
+joined : (a b c : Bool) → a && (b && c) ≡ (b && a) && c
+joined true b c = ap (λ d. d && c) (sym (and-true b))
+joined false b c = ap (λ d. d && c) (sym (and-false b))
+
+-- all links are gone through
+module _ {p : Plan} {sets′ ends′ : List ℕ} {start : ℕ} {links : List ℕ} {end met passed at k : ℕ} (h : length links ≤ k)
+    (w : Walking p sets′ ends′ start links) (s : Stands p start links end met passed at k) where
+  whole-last : isWalk p start links end ≡ all (passable p end) (s .behind) && eqb at end
+  unfolding walks
+  whole-last = s .whole ∙ (rw (drop-of-length-le links h))
+
+  pub walk-short : at ≢ end → false ≡ isWalk p start links end
+  walk-short d = stopped (all (passable p end) (s .behind)) whole-last (ne-eqb at end d)
+
+  pub walk-done : at ≡ end → (x : ℕ) → ((m : ℕ) → member m x ≡ added end (nth sets′ 1) m) → withinOf passed x ≡ isWalk p start links end
+  unfolding setsOf isRouter
+  walk-done e x a =
+      within-listed (s .behind) passed x (s .low) (s .signs)
+      ∙ all-same _ (passable p end) (s .behind) (λ m i. a m ∙ added-below end (nth sets′ 1) m (s .low m i) ∙ ap (λ b. eqb m end || b) (rw (w .sets) (member-packed-below m (hasKind p 1) (s .low m i))))
+      ∙ sym (whole-last ∙ (rw (eq-eqb at end e) (and-true (all (passable p end) (s .behind)))))
 
 -- at the next link, whose ends stand in memory
-module _ {p : Plan} {sets′ ends′ : List ℕ} {start : ℕ} {links : List ℕ} {end met at k : ℕ} (h : k < length links)
-    (w : Walking p sets′ ends′ start links) (s : Stands p start links end met at k) where
+module _ {p : Plan} {sets′ ends′ : List ℕ} {start : ℕ} {links : List ℕ} {end met passed at k : ℕ} (h : k < length links)
+    (w : Walking p sets′ ends′ start links) (s : Stands p start links end met passed at k) where
   pub next-link : isLink p (nth links k) ≡ true
   next-link = all-elim (isLink p) links (nth links k) (w .known) (in-list links k 0 h)
 
@@ -139,38 +172,33 @@ module _ {p : Plan} {sets′ ends′ : List ℕ} {start : ℕ} {links : List ℕ
   -- it leads nowhere
   pub walk-stops : over (nth ends′ (nth links k * 2)) (nth ends′ (nth links k * 2 + 1)) at ≡ none → false ≡ isWalk p start links end
   unfolding walks
-  walk-stops o = sym (s .whole ∙ (rw (drop-cons links k 0 h, next-read .leads at ∙ o, walks)))
+  walk-stops o = stopped (all (passable p end) (s .behind)) (s .whole) (rw (drop-cons links k 0 h, next-read .leads at ∙ o, walks))
 
   module _ {next : ℕ} (o : over (nth ends′ (nth links k * 2)) (nth ends′ (nth links k * 2 + 1)) at ≡ some next) where
     b : next < 64
     b = over-below _ _ at next o (next-read .below .0) (next-read .below .1)
 
-    whole-next : isWalk p start links end ≡ (not (member next met) && (eqb next end || isRouter p next) && walks p (next ∷ s .passed) next (drop (suc k) links) end)
+    from-here : walks p (s .before) at (drop k links) end ≡ (not (member next met) && passable p end next && walks p (next ∷ s .before) next (drop (suc k) links) end)
     unfolding walks
-    whole-next = s .whole ∙ (rw (drop-cons links k 0 h, next-read .leads at ∙ o, walks, s .marks next b))
+    from-here = rw (drop-cons links k 0 h, next-read .leads at ∙ o, walks, s .marks next b)
 
     -- a device is met twice
     pub walk-meets : member next met ≡ true → false ≡ isWalk p start links end
-    walk-meets t = sym (whole-next ∙ (rw t))
-
-    router-read : member next (nth sets′ 1) ≡ isRouter p next
-    unfolding setsOf isRouter
-    router-read = rw (w .sets) (member-packed-below next (hasKind p 1) b)
-
-    -- a device between is no router
-    pub walk-ends : next ≢ end → member next (nth sets′ 1) ≡ false → false ≡ isWalk p start links end
-    walk-ends d t = sym (whole-next ∙ (rw (ne-eqb next end d, sym router-read ∙ t) (ap (λ c. c && walks p (next ∷ s .passed) next (drop (suc k) links) end) (and-false (not (member next met))))))
+    walk-meets t = stopped (all (passable p end) (s .behind)) (s .whole) (from-here ∙ (rw t))
 
     -- the walk goes on
-    pub walk-next : (met′ : ℕ) → member next met ≡ false → (next ≡ end) ⊎ (member next (nth sets′ 1) ≡ true) → ((m : ℕ) → member m met′ ≡ added next met m)
-        → Stands p start links end met′ next (suc k)
-    unfolding isIn any
-    walk-next met′ f c a = record {
-      passed = next ∷ s .passed;
+    pub walk-next : (met′ passed′ : ℕ) → member next met ≡ false → ((m : ℕ) → member m met′ ≡ added next met m) → ((m : ℕ) → member m passed′ ≡ added next passed m)
+        → Stands p start links end met′ passed′ next (suc k)
+    unfolding isIn any all
+    walk-next met′ passed′ f a c = record {
+      before = next ∷ s .before;
       marks = λ m i. a m ∙ added-below next met m i ∙ (rw (s .marks m i));
-      whole = whole-next ∙ (rw (f, go c));
+      behind = next ∷ s .behind;
+      low = low;
+      signs = λ m. c m ∙ ap (λ d. eqb m next && ltb m 64 || d) (s .signs m) ∙ sym (and-or-distrib-right (eqb m next) (isIn m (s .behind)) (ltb m 64));
+      whole = s .whole ∙ ap (λ d. all (passable p end) (s .behind) && d) (from-here ∙ (rw f)) ∙ joined (all (passable p end) (s .behind)) (passable p end next) _;
     }
       where
-        go : (next ≡ end) ⊎ (member next (nth sets′ 1) ≡ true) → eqb next end || isRouter p next ≡ true
-        go (inl g) = rw (eq-eqb next end g)
-        go (inr g) = rw (sym router-read ∙ g) (or-true (eqb next end))
+        low : (m : ℕ) → List·Memᴰ m (next ∷ s .behind) → m < 64
+        low m (List·Memᴰ·head e) = rw e b
+        low m (List·Memᴰ·tail i) = s .low m i

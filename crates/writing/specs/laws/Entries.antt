@@ -3,8 +3,9 @@ use mathlib.Core.Path.{_≡_, refl, sym, ap, _∙_}
 use mathlib.Core.List.{List, [], map, flatMap}
 use mathlib.Core.Option.{Option, none, some}
 use mathlib.Core.Bool.{false}
-use Prim.Native.Nat.{ℕ, _+_, _*_, _/_, _%_, _<_}
+use Prim.Native.Nat.{ℕ, _+_, _*_, _/_, _%_, _<_, min}
 use native.Mathlib.Omega.{arith}
+use lib.ListN.{length}
 use lib.Dec.{eqb}
 use borrow.Author.Tests.{eqb-true, ne-eqb}
 use Rattle.lists.specs.Search.{keep, isIn, upFrom, below64}
@@ -100,10 +101,10 @@ module _ (p : Plan) where
       flat-none (at i) below64
       (λ v m. ap (flatMap entryField) (keep-none (standsAt i v) (p .entries) (λ e n. rw (ne-eqb i (e .initiator) (λ q. not-both (entry-initiator p (good .lengths) (good .ranges) (good .reached) e n) (rw q at h))))))
 
-  pub entries-out : Good p → canonical p ≡ p → flatMap (entryBytes (rowsOf p) (spansOf p) (aimsOf p)) (upFrom 512 0) ≡ flatMap fieldFor (map entry (p .entries))
+  pub entries-out : Good p → canonical p ≡ p → flatMap (entryBytes (rowsOf p) (spansOf p) (aimsOf p)) (upFrom (64 * min (length (initiators p)) 8) 0) ≡ flatMap fieldFor (map entry (p .entries))
   unfolding canonical initiators cell of at entryField standsAt below64
   entries-out good e =
-      flat-rows cell 64 8 ∙ flat-places of (initiators p) _ 8 (good .eight) (whole-row good)
+      flat-rows cell 64 (min (length (initiators p)) 8) ∙ flat-places of (initiators p) _ (min (length (initiators p)) 8) (omega (arith, good .eight)) (λ r h. whole-row good r (omega arith))
       ∙ flat-keep (isInitiator p) of below64 (none-of good)
       ∙ sym (flat-orders entryField (λ x. x .initiator) (λ x. x .slot) (p .entries)) ∙ sym (flat-map (λ x. fieldFor (entry x)) withRising _)
       ∙ ap (flatMap (λ x. fieldFor (entry x))) (ap (λ (q : Plan). q .entries) e) ∙ sym (flat-map fieldFor entry (p .entries))

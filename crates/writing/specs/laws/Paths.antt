@@ -1,7 +1,7 @@
 -- The paths of a plan in canonical order: what its rows give, one by one, is their fields.
 use mathlib.Core.Path.{_≡_, refl, sym, ap, ap₂, _∙_}
 use mathlib.Core.List.{List, [], _∷_, _++_, map, flatMap, append-assoc, List·Memᴰ, List·Memᴰ·head, List·Memᴰ·tail}
-use Prim.Native.Nat.{ℕ, zero, suc, _+_, _-_, _*_, _≤_}
+use Prim.Native.Nat.{ℕ, zero, suc, _+_, _-_, _*_, _≤_, min}
 use native.Mathlib.Omega.{arith}
 use lib.ListN.{length, take, drop, replicate}
 use lib.Seq.{getD-drop, drop-drop, take-at, drop-at}
@@ -68,9 +68,9 @@ module _ (m : List ℕ) where
       (rows-out xs (suc n) k z (omega arith) (λ y i. h y (List·Memᴰ·tail i))
       (ap (λ j. drop j m) s ∙ sym (drop-drop 11 (11 * n) m) ∙ ap (drop 11) f ∙ drop-at (pathRow x) (flatMap pathRow xs ++ replicate z 0) 11 (row-length x w)))
 
-pub paths-out : (p : Plan) → Good p → canonical p ≡ p → flatMap (pathBytes (pathsOf p)) (upFrom 128 0) ≡ flatMap fieldFor (map path (p .paths))
+pub paths-out : (p : Plan) → Good p → canonical p ≡ p → flatMap (pathBytes (pathsOf p)) (upFrom (min (length (p .paths)) 128) 0) ≡ flatMap fieldFor (map path (p .paths))
 unfolding canonical pathsOf pathsInOrder padded pathField
 paths-out p good e =
     let f : pathsInOrder p ≡ p .paths = ap (λ (q : Plan). q .paths) e in
-    rows-out (pathsOf p) (p .paths) 0 128 (1408 - length (flatMap pathRow (pathsInOrder p))) (good .most) (λ x m. path-length x (good .lengths (path x) (path-in p x m)))
+    rows-out (pathsOf p) (p .paths) 0 (min (length (p .paths)) 128) (1408 - length (flatMap pathRow (pathsInOrder p))) (omega (arith, good .most)) (λ x m. path-length x (good .lengths (path x) (path-in p x m)))
     (ap (λ xs. flatMap pathRow xs ++ replicate (1408 - length (flatMap pathRow (pathsInOrder p))) 0) f) ∙ sym (flat-map fieldFor path (p .paths))

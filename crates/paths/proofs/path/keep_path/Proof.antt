@@ -5,7 +5,7 @@ use native.Mathlib.Omega.{arith}
 use Rattle.plan_rules.specs.Plan.{nth}
 use Rattle.paths.specs.Keep.{route}
 use Rattle.paths.specs.laws.OwnRow.{count-keeps, reach-stored, numbers-stored}
-use Rattle.paths.specs.laws.PathPlace.{place-upto, paths-stored}
+use Rattle.paths.specs.laws.PathPlace.{paths-stored}
 use borrow.Author.Needs.{needs}
 use Rattle.paths.proofs.path.keep_path.Statement.{statement}
 use Rattle.paths.proofs.path.keep_path.Tie as tie
@@ -37,7 +37,7 @@ three c = ap (λ l. nth l 3) (c .own-row .ensures .1) ∙ count-keeps _ _ _
 
 -- the path's place is among the paths
 upto : (c : tie.After-place-of) → c .place-of .result ≤ nth (c .before .before .before .before .before .own-row .last .1 .1 .0) 3
-upto c = rw (c .place-of .ensures) (place-upto (c .before .before .before .before .before .before .before .before .before .before .args .paths .now) _ _ _)
+upto c = c .place-of .ensures .0
 
 cast-n : tie.Need-cast-n
 cast-n c = omega (arith, three (c .before .before .before))
@@ -58,7 +58,7 @@ mul-put-path : tie.Need-mul-put-path
 mul-put-path c = omega (arith, upto (c .before .before .before), three (c .before .before .before .before .before .before .before .before))
 
 put-path-requires : tie.Need-put-path-requires
-put-path-requires c κs = (omega (arith, upto (c .before .before .before), three (c .before .before .before .before .before .before .before .before)), c .before .before .before .before .before .before .before .before .before .before .before .before .before .pre .2)
+put-path-requires c κs = (omega (arith, upto (c .before .before .before), three (c .before .before .before .before .before .before .before .before)), c .before .before .before .before .before .before .before .before .before .before .before .before .before .pre .3)
 
 add-numbers : tie.Need-add-numbers
 add-numbers c = omega (arith, three (c .before .before .before .before .before .before .before .before .before))
@@ -74,7 +74,7 @@ returns c = λ e f g.
     let m = o .own-row .ensures .2 e f in (
       m .1,
       reach-stored _ _ _ _ _ _ x (m .0) (m .2) (c .before .before .before .before .before .before .before .add .ok) (c .before .before .before .before .before .before .before .add .ensures),
-      paths-stored _ _ _ _ _ _ x g (o .before .before .before .before .before .pre .2) (three o) (o .before .before .before .before .before .pre .1) (c .before .before .before .before .place-of .ensures) (c .before .before .make-room .ensures) (c .put-path .ensures),
+      paths-stored _ _ _ _ _ _ x g (o .before .before .before .before .before .pre .3) (three o) (o .before .before .before .before .before .pre .2) (c .before .before .before .before .place-of .ensures) (c .before .before .make-room .ensures) (c .put-path .ensures),
       numbers-stored _ _ _ _ (o .own-row .ensures .1),
     )
 

@@ -12,16 +12,14 @@ use Rattle.paths.proofs.path.own_row.Tie as tie
 element-copy-out-count : tie.Need-element-copy-out-count
 element-copy-out-count c = search needs
 
-row-of-requires : tie.Need-row-of-requires
-row-of-requires c κs = search needs
-
 cast-if1 : tie.Need-cast-if1
 cast-if1 c = omega arith
 
 returns : tie.Need-returns
 returns c =
-    let a = c .before .before .before .before .args in
-    let e = c .before .row-of .ensures in
+    let s = c .before .before in
+    let a = s .args in
+    let e = s .pre .0 in
     let d : rowAmong (a .rows .now) (nth (a .numbers .now) 2) (a .initiator) ≢ nth (a .numbers .now) 2 = λ f. c .if1 .taken (e ∙ f) in
     (omega arith, sym (old-count _ _ _ d), λ f g. (e ∙ sym (old-row _ _ _ d), sym (old-array _ _ _ d _ _), sym (old-array _ _ _ d _ _)))
 
@@ -36,10 +34,10 @@ insert-row-requires c κs = search needs
 
 returns-2 : tie.Need-returns-2
 returns-2 c =
-    let n = c .before .before .before .before in
-    let a = n .before .before .before .args in
-    let q : n .row-of .result ≡ nth (a .numbers .now) 2 = c .before .before .before .if1 .left in
-    let e = sym (n .row-of .ensures) ∙ q in (
+    let s = c .before .before .before .before .before in
+    let a = s .args in
+    let q : a .row ≡ nth (a .numbers .now) 2 = c .before .before .before .if1 .left in
+    let e = sym (s .pre .0) ∙ q in (
       omega arith,
       sym (new-count _ _ _ e),
       λ f g.
@@ -52,7 +50,6 @@ own-row-spec =
     tie.close
     (tie.spec
     element-copy-out-count
-    row-of-requires
     cast-if1
     returns
     add-numbers

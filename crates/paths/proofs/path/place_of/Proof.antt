@@ -1,78 +1,69 @@
--- `paths::path::place_of` meets its contract: the path precedes none of the first k.
-use mathlib.Core.Path.{_≡_, sym}
-use mathlib.Core.Logic.{⊎-elim}
-use mathlib.Core.List.{List}
-use mathlib.Core.Bool.{Bool, true, false}
-use Prim.Native.Nat.{ℕ, _+_, _*_, _-_, _≤_, _<_}
+-- `paths::path::place_of` meets its contract: the place is between low and high.
+use mathlib.Core.Path.{sym, _∙_}
+use Prim.Native.Nat.{ℕ, _-_, _≤_, _<_}
 use native.Mathlib.Omega.{arith}
 use borrow.Author.Needs.{needs}
-use borrow.Author.Count.{below-more}
-use Rattle.lists.specs.laws.Insert.{first-is}
-use Rattle.plan_rules.specs.Plan.{nth}
-use Rattle.paths.specs.Keep.{precedes, pathPlace}
-use Rattle.paths.specs.laws.PathPlace.{precedes-initiator, precedes-target, later-initiator, later-target}
+use borrow.Author.Tests.{not-true, not-false}
+use Rattle.paths.specs.Keep.{IsPlace}
+use Rattle.paths.specs.laws.PathPlace.{place-upto, place-past}
 use Rattle.paths.proofs.path.place_of.Statement.{statement}
 use Rattle.paths.proofs.path.place_of.Tie as tie
 
--- the path from i to t precedes path k
-abbrev test : List ℕ → ℕ → ℕ → ℕ → Bool
-test paths i t k = precedes i t (nth paths (k * 11)) (nth paths (k * 11 + 1))
-
-found : (paths : List ℕ) (count i t k : ℕ) → k ≤ count → ((j : ℕ) → j < k → test paths i t j ≡ false) → (k < count → test paths i t k ≡ true) → k ≡ pathPlace paths count i t
-found paths count i t k h f g = sym (first-is count k (test paths i t) h f g)
-
 abbrev Inv-loop : tie.InvT-loop
-Inv-loop paths count initiator target k₀ k = (k ≤ count) × ((j : ℕ) → j < k → test paths initiator target j ≡ false)
+Inv-loop paths count initiator target low₀ high₀ low high =
+    (low ≤ high) × (high < count) × ((m : ℕ) → IsPlace paths count initiator target m → (low ≤ m) × (m ≤ high))
 
 abbrev μ-loop : tie.MeasureT-loop
-μ-loop paths count initiator target k₀ k = count - k
-
-loop-holds : tie.Need-loop-holds Inv-loop μ-loop
-loop-holds c = (search needs, λ j h. absurd (omega arith))
-
-mul-i : tie.Need-mul-i Inv-loop μ-loop
-mul-i c = search needs
-
-element-copy-out-i : tie.Need-element-copy-out-i Inv-loop μ-loop
-element-copy-out-i c = search needs
+μ-loop paths count initiator target low₀ high₀ low high = high - low
 
 returns : tie.Need-returns Inv-loop μ-loop
-returns c =
-    let l = c .before .before .before in
-    found (l .before .args .paths .now) _ _ _ _ (omega arith) (l .loop .inv .1) (λ h. precedes-initiator _ _ _ (nth (l .before .args .paths .now) (l .loop .k * 11 + 1)) (c .if1 .taken))
+returns c = (search needs, λ m p. omega (arith, p .within))
 
-mul-t : tie.Need-mul-t Inv-loop μ-loop
-mul-t c = search needs
+sub-high : tie.Need-sub-high Inv-loop μ-loop
+sub-high c = search needs
 
-add-t : tie.Need-add-t Inv-loop μ-loop
-add-t c = search needs
-
-element-copy-out-t : tie.Need-element-copy-out-t Inv-loop μ-loop
-element-copy-out-t c = search needs
+stands-before-requires : tie.Need-stands-before-requires Inv-loop μ-loop
+stands-before-requires c κs = omega arith
 
 returns-2 : tie.Need-returns-2 Inv-loop μ-loop
 returns-2 c =
-    let l = c .before .before .before .before .before .before in
-    found (l .before .args .paths .now) _ _ _ _ (omega arith) (l .loop .inv .1) (λ h. precedes-target _ _ _ _ (c .before .before .if2 .taken) (c .if3 .taken))
+    let e = sym (c .before .stands-before .ensures) ∙ not-true _ (c .if2 .taken) in
+    (search needs, λ m p. omega (arith, p .within, place-past p _ (omega arith) e))
 
-add-k : tie.Need-add-k Inv-loop μ-loop
-add-k c = search needs
+loop-holds : tie.Need-loop-holds Inv-loop μ-loop
+loop-holds c =
+    let e = sym (c .before .stands-before .ensures) ∙ not-false _ (c .if2 .left) in
+    (search needs, omega arith, λ m p. (omega arith, place-upto p _ e))
+
+add-middle : tie.Need-add-middle Inv-loop μ-loop
+add-middle c = omega arith
+
+stands-before-requires-2 : tie.Need-stands-before-requires-2 Inv-loop μ-loop
+stands-before-requires-2 c κs = omega arith
 
 loop-less : tie.Need-loop-less Inv-loop μ-loop
-loop-less c = search needs
+loop-less c = omega arith
 
 loop-again : tie.Need-loop-again Inv-loop μ-loop
 loop-again c =
-    let l = c .before .before .before .before in (
-      search needs,
-      below-more _ (l .loop .k) (l .loop .inv .1)
-          (⊎-elim {C = test (l .before .args .paths .now) (l .before .args .initiator) (l .before .args .target) (l .loop .k) ≡ false} (λ w. later-target _ _ _ _ (w .0 .taken) (w .2 .left)) (λ w. later-initiator _ _ _ _ (c .before .if1 .left) (w .left)) (c .if2 .came)),
-    )
+    let l = c .before .before .before in
+    (omega arith, omega arith, λ m p. (l .loop .inv .2 m p .0, place-upto p _ (sym (c .before .stands-before2 .ensures) ∙ c .if3 .taken)))
+
+add-low : tie.Need-add-low Inv-loop μ-loop
+add-low c = omega arith
+
+loop-less-2 : tie.Need-loop-less-2 Inv-loop μ-loop
+loop-less-2 c = omega arith
+
+loop-again-2 : tie.Need-loop-again-2 Inv-loop μ-loop
+loop-again-2 c =
+    let l = c .before .before .before in
+    (omega arith, l .loop .inv .1, λ m p. (omega (arith, place-past p _ (omega arith) (sym (c .before .stands-before2 .ensures) ∙ c .if3 .left)), l .loop .inv .2 m p .1))
 
 returns-3 : tie.Need-returns-3 Inv-loop μ-loop
 returns-3 c =
     let l = c .before in
-    found (l .before .args .paths .now) _ _ _ _ (omega arith) (l .loop .inv .1) (λ h. absurd (omega arith))
+    (omega arith, λ m p. omega (arith, l .loop .inv .2 m p .0, l .loop .inv .2 m p .1))
 
 pub place-of-spec : {M : Type 1} → statement M
 place-of-spec =
@@ -80,15 +71,16 @@ place-of-spec =
     (tie.spec
     Inv-loop
     μ-loop
-    loop-holds
-    mul-i
-    element-copy-out-i
     returns
-    mul-t
-    add-t
-    element-copy-out-t
+    sub-high
+    stands-before-requires
     returns-2
-    add-k
+    loop-holds
+    add-middle
+    stands-before-requires-2
     loop-less
     loop-again
+    add-low
+    loop-less-2
+    loop-again-2
     returns-3)

@@ -1,27 +1,23 @@
 -- `paths::walk::is_walk` meets its contract: what is walked from the device reached, with the devices met, is what the whole walk is.
 use mathlib.Core.Path.{_≡_, sym, ap, _∙_}
-use mathlib.Core.Logic.{⊎-elim, inl, inr}
+use mathlib.Core.Logic.{⊎-elim}
 use mathlib.Core.Option.{some}
 use Prim.Native.Nat.{_*_, _+_, _≤_, _-_}
 use native.Mathlib.Numerals.{add-one}
 use native.Mathlib.Omega.{arith}
 use lib.ListN.{length}
 use borrow.Author.Needs.{needs}
-use borrow.Author.Tests.{not-true, not-false}
 use Rattle.plan_rules.specs.Plan.{nth, Plan}
-use Rattle.paths.specs.laws.Walks.{over, Walking, Stands, walking, stands-first, stands-last, over-first, over-second, over-none, next-below, walk-stops, walk-meets, walk-ends, walk-next}
+use Rattle.paths.specs.laws.Walks.{over, Walking, Stands, walking, stands-first, over-first, over-second, over-none, next-below, walk-short, walk-done, walk-stops, walk-meets, walk-next}
 use Rattle.paths.proofs.walk.is_walk.Statement.{statement}
 use Rattle.paths.proofs.walk.is_walk.Tie as tie
 
 abbrev Inv-loop : tie.InvT-loop
-Inv-loop sets ends start links end routers met₀ at₀ k₀ met at k =
-    (k ≤ length links) × ((p : Plan) → Walking p sets ends start links → Stands p start links end met at k)
+Inv-loop sets ends start links end met₀ passed₀ at₀ k₀ met passed at k =
+    (k ≤ length links) × ((p : Plan) → Walking p sets ends start links → Stands p start links end met passed at k)
 
 abbrev μ-loop : tie.MeasureT-loop
-μ-loop sets ends start links end routers met₀ at₀ k₀ met at k = length links - k
-
-element-copy-out-routers : tie.Need-element-copy-out-routers Inv-loop μ-loop
-element-copy-out-routers c = search needs
+μ-loop sets ends start links end met₀ passed₀ at₀ k₀ met passed at k = length links - k
 
 add-requires : tie.Need-add-requires Inv-loop μ-loop
 add-requires c κs = search needs
@@ -66,7 +62,7 @@ has-requires c κs = search needs
 -- where the link leads: to its other end
 led : (j : tie.Joined2 Inv-loop μ-loop) →
     let l = j .before .before .before .before .before .before in
-    let a = l .before .before .before .before .args in
+    let a = l .before .before .before .args in
     let n = nth (a .links .now) (l .loop .k) in
     over (nth (a .ends .now) (n * 2)) (nth (a .ends .now) (n * 2 + 1)) (l .loop .at) ≡ some (j .if2 .next)
 led j = ⊎-elim (λ x. over-first _ _ _ (x .0 .taken) ∙ ap some (sym (x .1))) (λ x. over-second _ _ _ (x .0 .left) (x .1 .left) ∙ ap some (sym (x .2))) (j .if2 .came)
@@ -79,19 +75,11 @@ returns-3 c = λ p f h g a b.
     let s = i .before .loop .inv .1 p w in
     walk-meets (i .loop-test .taken) w s (led j) (sym (c .before .has .ensures) ∙ c .if4 .taken)
 
-has-requires-2 : tie.Need-has-requires-2 Inv-loop μ-loop
-has-requires-2 c κs = search needs
-
-returns-4 : tie.Need-returns-4 Inv-loop μ-loop
-returns-4 c = λ p f h g a b.
-    let j = c .before .before .before .before .before in
-    let i = j .before .before .before .before .before in
-    let w = walking f h g a b in
-    let s = i .before .loop .inv .1 p w in
-    walk-ends (i .loop-test .taken) w s (led j) (c .before .before .if5 .taken) (sym (c .before .has2 .ensures) ∙ not-true _ (c .if6 .taken))
-
 add-requires-2 : tie.Need-add-requires-2 Inv-loop μ-loop
 add-requires-2 c κs = search needs
+
+add-requires-3 : tie.Need-add-requires-3 Inv-loop μ-loop
+add-requires-3 c κs = search needs
 
 add-k : tie.Need-add-k Inv-loop μ-loop
 add-k c = search needs
@@ -107,13 +95,30 @@ loop-again c = (
       let j = e .before .before in
       let i = j .before .before .before .before .before in
       let s = i .before .loop .inv .1 p w in
-      rw add-one (walk-next (i .loop-test .taken) w s (led j) (c .add2 .result) (sym (e .before .has .ensures) ∙ e .if4 .left) (⊎-elim (λ x. inr (sym (x .1 .ensures) ∙ not-false _ (x .2 .left))) (λ x. inl (x .left)) (c .before .if5 .came)) (c .add2 .ensures)),
+      rw add-one (walk-next (i .loop-test .taken) w s (led j) (c .before .add2 .result) (c .add3 .result) (sym (e .before .has .ensures) ∙ e .if4 .left) (c .before .add2 .ensures) (c .add3 .ensures)),
 )
+
+returns-4 : tie.Need-returns-4 Inv-loop μ-loop
+returns-4 c = λ p f h g a b.
+    let l = c .before .before in
+    let w = walking f h g a b in
+    walk-short (omega arith) w (l .loop .inv .1 p w) (c .if5 .taken)
+
+element-copy-out-add : tie.Need-element-copy-out-add Inv-loop μ-loop
+element-copy-out-add c = search needs
+
+add-requires-4 : tie.Need-add-requires-4 Inv-loop μ-loop
+add-requires-4 c κs = search needs
+
+within-requires : tie.Need-within-requires Inv-loop μ-loop
+within-requires c κs = search needs
 
 returns-5 : tie.Need-returns-5 Inv-loop μ-loop
 returns-5 c = λ p f h g a b.
-    let l = c .before in
-    stands-last (omega arith) (l .loop .inv .1 p (walking f h g a b))
+    let d = c .before .before .before in
+    let l = d .before .before in
+    let w = walking f h g a b in
+    c .within .ensures ∙ walk-done (omega arith) w (l .loop .inv .1 p w) (d .if5 .left) (c .before .add4 .result) (c .before .add4 .ensures)
 
 pub is-walk-spec : {M : Type 1} → statement M
 is-walk-spec =
@@ -121,7 +126,6 @@ is-walk-spec =
     (tie.spec
     Inv-loop
     μ-loop
-    element-copy-out-routers
     add-requires
     loop-holds
     shared-slice-read-l
@@ -134,10 +138,13 @@ is-walk-spec =
     returns-2
     has-requires
     returns-3
-    has-requires-2
-    returns-4
     add-requires-2
+    add-requires-3
     add-k
     loop-less
     loop-again
+    returns-4
+    element-copy-out-add
+    add-requires-4
+    within-requires
     returns-5)

@@ -22,14 +22,11 @@ element-copy-out-aim c = search needs
 size-requires : tie.Need-size-requires
 size-requires c κs = search needs
 
-cast-put-head : tie.Need-cast-put-head
-cast-put-head c = let a = c .before .before .before .before .before .before .args in omega (arith, c .size .ensures, size-le (getD (a .aims .now) (a .n) 0))
+cast-size : tie.Need-cast-size
+cast-size c = let a = c .before .before .before .before .before .args in omega (arith, c .size .ensures, size-le (getD (a .aims .now) (a .n) 0))
 
-add-put-head : tie.Need-add-put-head
-add-put-head c = let a = c .before .before .before .before .before .before .args in omega (arith, c .size .ensures, size-le (getD (a .aims .now) (a .n) 0))
-
-put-head-requires : tie.Need-put-head-requires
-put-head-requires c κs = search needs
+add-size : tie.Need-add-size
+add-size c = let a = c .before .before .before .before .before .args in omega (arith, c .size .ensures, size-le (getD (a .aims .now) (a .n) 0))
 
 element-copy-out-initiator : tie.Need-element-copy-out-initiator
 element-copy-out-initiator c = search needs
@@ -51,10 +48,10 @@ same-length c = search needs
 
 returns-2 : tie.Need-returns-2
 returns-2 c =
-    let h = c .before .before .before .before .before .before .before .before .before .before .before .before in
-    let a = h .before .before .before .before .before .before .before .args in
-    entry-puts (a .rows .now) (a .spans .now) (a .aims .now) (a .n) (h .before .before .before .before .if1 .left) (h .before .size .ensures)
-    (h .put-head .ensures) (c .before .before .before .before .before .before .put .ensures) (c .before .before .put-members .ensures)
+    let p = c .before .before .before .before .before .before in
+    let s = p .before .before .before .before in
+    let a = s .before .before .before .before .before .args in
+    entry-puts (a .rows .now) (a .spans .now) (a .aims .now) (a .n) (s .before .before .if1 .left) (s .size .ensures) (p .put .ensures) (c .before .before .put-members .ensures)
 
 pub put-entry-spec : {M : Type 1} → statement M
 put-entry-spec =
@@ -65,9 +62,8 @@ put-entry-spec =
     mul-aim
     element-copy-out-aim
     size-requires
-    cast-put-head
-    add-put-head
-    put-head-requires
+    cast-size
+    add-size
     element-copy-out-initiator
     cast-slot
     slice-aggregate-put

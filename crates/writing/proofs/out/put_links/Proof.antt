@@ -1,65 +1,73 @@
--- `writing::out::put_links` meets its contract. The loop's invariant: the fields of the links below n are put. Assumes nothing.
+-- `writing::out::put_links` meets its contract. The loop's invariant: the fields of the links before the least that is left are put. Assumes nothing.
 use Prim.Native.Nat.{_-_}
-use Rattle.lists.specs.Search.{below64}
-use Rattle.writing.specs.Out.{linkBytes}
-use Rattle.writing.specs.laws.Parts.{link-puts}
+use native.Mathlib.Omega.{arith}
 use borrow.Author.Needs.{needs}
-use Rattle.lists.specs.laws.Puts.{Turns, turns-begin, turns-next, turns-done}
+use Rattle.sets.specs.Set.{leastOf}
+use Rattle.sets.specs.Laws.{least-le}
+use Rattle.sets.specs.Walk.{Walk, walk-begin, walk-low, walk-less, walk-next, walk-done}
+use Rattle.writing.specs.Out.{linkBytes}
+use Rattle.writing.specs.laws.Parts.{link-off, link-on}
 use Rattle.writing.proofs.out.put_links.Statement.{statement}
 use Rattle.writing.proofs.out.put_links.Tie as tie
 
 abbrev Inv-loop : tie.InvT-loop
-Inv-loop out₀ at links ends k₀ n₀ out k n = Turns (linkBytes links ends) 64 out₀ at out k n
+Inv-loop out₀ at links ends k₀ rest₀ out k rest = Walk (linkBytes links ends) links out₀ at out k rest
 
 abbrev μ-loop : tie.MeasureT-loop
-μ-loop out₀ at links ends k₀ n₀ out k n = 64 - n
+μ-loop out₀ at links ends k₀ rest₀ out k rest = 64 - leastOf rest
 
 loop-holds : tie.Need-loop-holds Inv-loop μ-loop
-loop-holds c = let a = c .before .args in turns-begin (linkBytes (a .links) (a .ends .now)) 64 (a .out .now) (a .at)
+loop-holds c = let a = c .before .args in walk-begin (linkBytes (a .links) (a .ends .now)) (a .links) (link-off (a .links) (a .ends .now)) (search needs) (a .out .now) (a .at)
+
+least-requires : tie.Need-least-requires Inv-loop μ-loop
+least-requires c κs = search needs
+
+cast-n : tie.Need-cast-n Inv-loop μ-loop
+cast-n c = omega (arith, c .least .ensures, least-le (c .before .before .loop .rest))
 
 cast-i : tie.Need-cast-i Inv-loop μ-loop
-cast-i c = search needs
+cast-i c = omega (arith, c .least .ensures, least-le (c .before .before .loop .rest))
 
 mul-i : tie.Need-mul-i Inv-loop μ-loop
-mul-i c = search needs
+mul-i c = omega (arith, c .least .ensures, least-le (c .before .before .loop .rest))
 
 element-copy-out-smaller : tie.Need-element-copy-out-smaller Inv-loop μ-loop
-element-copy-out-smaller c = search needs
+element-copy-out-smaller c = omega (arith, c .least .ensures, walk-low (c .before .before .loop .inv) (c .before .loop-test .taken))
 
 add-greater : tie.Need-add-greater Inv-loop μ-loop
-add-greater c = search needs
+add-greater c = omega (arith, c .before .least .ensures, least-le (c .before .before .before .loop .rest))
 
 element-copy-out-greater : tie.Need-element-copy-out-greater Inv-loop μ-loop
-element-copy-out-greater c = search needs
+element-copy-out-greater c = omega (arith, c .before .least .ensures, walk-low (c .before .before .before .loop .inv) (c .before .before .loop-test .taken))
 
-has-requires : tie.Need-has-requires Inv-loop μ-loop
-has-requires c κs = search needs
+slice-aggregate-put : tie.Need-slice-aggregate-put Inv-loop μ-loop
+slice-aggregate-put c = search needs
 
-slice-aggregate-put-if : tie.Need-slice-aggregate-put-if Inv-loop μ-loop
-slice-aggregate-put-if c = search needs
+put-requires : tie.Need-put-requires Inv-loop μ-loop
+put-requires c κs = search needs
 
-put-if-requires : tie.Need-put-if-requires Inv-loop μ-loop
-put-if-requires c κs = search needs
-
-add-n : tie.Need-add-n Inv-loop μ-loop
-add-n c = search needs
+without-least-requires : tie.Need-without-least-requires Inv-loop μ-loop
+without-least-requires c κs = search needs
 
 loop-less : tie.Need-loop-less Inv-loop μ-loop
-loop-less c = search needs
+loop-less c =
+    let t = c .before .before .before .before .before .before .before .before .before in
+    walk-less (t .before .loop .inv) (t .loop-test .taken) (c .without-least .result) (c .without-least .ensures)
 
 loop-again : tie.Need-loop-again Inv-loop μ-loop
 loop-again c =
-    let d = c .before .before in
-    let l = d .before .before .before .before .before .before .before in
+    let p = c .before .before .before in
+    let m = p .before .before .before .before .before in
+    let l = m .before .before in
     let a = l .before .before .args in
-    turns-next (l .loop .inv) (search needs) (d .put-if .kept .0) (link-puts (a .links) (a .ends .now) (l .loop .n) (d .before .before .has .ensures) (d .put-if .ensures))
+    walk-next (l .loop .inv) (m .before .loop-test .taken) (c .without-least .result) (c .without-least .ensures) (search needs)
+    (m .least .ensures) (link-on (a .links) (a .ends .now) (m .least .result)) (p .put .kept .0) (p .put .ensures)
 
 same-length : tie.Need-same-length Inv-loop μ-loop
-same-length c = c .before .loop .inv .same
+same-length c = c .before .loop .inv .turns .same
 
 returns : tie.Need-returns Inv-loop μ-loop
-unfolding below64
-returns c = turns-done (c .before .loop .inv) (c .loop-test .left)
+returns c = walk-done (c .before .loop .inv) (c .loop-test .left)
 
 pub put-links-spec : {M : Type 1} → statement M
 put-links-spec =
@@ -68,15 +76,16 @@ put-links-spec =
     Inv-loop
     μ-loop
     loop-holds
+    least-requires
+    cast-n
     cast-i
     mul-i
     element-copy-out-smaller
     add-greater
     element-copy-out-greater
-    has-requires
-    slice-aggregate-put-if
-    put-if-requires
-    add-n
+    slice-aggregate-put
+    put-requires
+    without-least-requires
     loop-less
     loop-again
     same-length

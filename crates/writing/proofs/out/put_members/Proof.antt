@@ -1,53 +1,57 @@
--- `writing::out::put_members` meets its contract. The loop's invariant: the members below t are put. Assumes nothing.
-use Prim.Native.Nat.{ℕ, _-_}
-use Rattle.lists.specs.Search.{only, below64}
-use Rattle.lists.specs.laws.Order.{flat-only}
-use Rattle.sets.specs.Set.{member, members}
-use Rattle.writing.specs.Out.{rises}
-use Rattle.writing.specs.laws.Parts.{member-puts}
+-- `writing::out::put_members` meets its contract. The loop's invariant: the members before the least that is left are put. Assumes nothing.
+use Prim.Native.Nat.{_-_}
+use native.Mathlib.Omega.{arith}
 use borrow.Author.Needs.{needs}
-use Rattle.lists.specs.laws.Puts.{Turns, turns-begin, turns-next, turns-done}
+use Rattle.sets.specs.Set.{leastOf}
+use Rattle.sets.specs.Laws.{least-le}
+use Rattle.sets.specs.Walk.{Walk, walk-begin, walk-less, walk-next, walk-done}
+use Rattle.writing.specs.laws.Parts.{memberByte, member-off, member-on, members-rise}
 use Rattle.writing.proofs.out.put_members.Statement.{statement}
 use Rattle.writing.proofs.out.put_members.Tie as tie
 
 abbrev Inv-loop : tie.InvT-loop
-Inv-loop out₀ at set k₀ t₀ out k t = Turns (λ (n : ℕ). only (member n set) n) 64 out₀ at out k t
+Inv-loop out₀ at set k₀ rest₀ out k rest = Walk (memberByte set) set out₀ at out k rest
 
 abbrev μ-loop : tie.MeasureT-loop
-μ-loop out₀ at set k₀ t₀ out k t = 64 - t
+μ-loop out₀ at set k₀ rest₀ out k rest = 64 - leastOf rest
 
 loop-holds : tie.Need-loop-holds Inv-loop μ-loop
-loop-holds c = let a = c .before .args in turns-begin (λ (n : ℕ). only (member n (a .set)) n) 64 (a .out .now) (a .at)
+loop-holds c = let a = c .before .args in walk-begin (memberByte (a .set)) (a .set) (member-off (a .set)) (search needs) (a .out .now) (a .at)
 
-has-requires : tie.Need-has-requires Inv-loop μ-loop
-has-requires c κs = search needs
+least-requires : tie.Need-least-requires Inv-loop μ-loop
+least-requires c κs = search needs
 
-slice-aggregate-put-if : tie.Need-slice-aggregate-put-if Inv-loop μ-loop
-slice-aggregate-put-if c = search needs
+cast-t9 : tie.Need-cast-t9 Inv-loop μ-loop
+cast-t9 c = omega (arith, c .least .ensures, least-le (c .before .before .loop .rest))
 
-put-if-requires : tie.Need-put-if-requires Inv-loop μ-loop
-put-if-requires c κs = search needs
+slice-aggregate-put : tie.Need-slice-aggregate-put Inv-loop μ-loop
+slice-aggregate-put c = search needs
 
-add-t : tie.Need-add-t Inv-loop μ-loop
-add-t c = search needs
+put-requires : tie.Need-put-requires Inv-loop μ-loop
+put-requires c κs = search needs
+
+without-least-requires : tie.Need-without-least-requires Inv-loop μ-loop
+without-least-requires c κs = search needs
 
 loop-less : tie.Need-loop-less Inv-loop μ-loop
-loop-less c = search needs
+loop-less c =
+    let t = c .before .before .before .before .before .before .before in
+    walk-less (t .before .loop .inv) (t .loop-test .taken) (c .without-least .result) (c .without-least .ensures)
 
 loop-again : tie.Need-loop-again Inv-loop μ-loop
 loop-again c =
-    let d = c .before .before in
-    let l = d .before .before .before .before .before in
-    turns-next (l .loop .inv) (search needs) (d .put-if .kept .0) (member-puts (l .before .before .args .set) (l .loop .t) (d .before .before .has .ensures) (d .put-if .ensures))
+    let p = c .before .before .before in
+    let m = p .before .before .before in
+    let l = m .before .before in
+    let set = l .before .before .args .set in
+    walk-next (l .loop .inv) (m .before .loop-test .taken) (c .without-least .result) (c .without-least .ensures) (search needs)
+    (m .least .ensures) (member-on set (m .least .result)) (p .put .kept .0) (p .put .ensures)
 
 same-length : tie.Need-same-length Inv-loop μ-loop
-same-length c = c .before .loop .inv .same
+same-length c = c .before .loop .inv .turns .same
 
 returns : tie.Need-returns Inv-loop μ-loop
-unfolding rises below64
-returns c =
-    let set = c .before .before .before .args .set in
-    rw (flat-only (members set) below64) at (turns-done (c .before .loop .inv) (c .loop-test .left))
+returns c = rw (members-rise (c .before .before .before .args .set)) at (walk-done (c .before .loop .inv) (c .loop-test .left))
 
 pub put-members-spec : {M : Type 1} → statement M
 put-members-spec =
@@ -56,10 +60,11 @@ put-members-spec =
     Inv-loop
     μ-loop
     loop-holds
-    has-requires
-    slice-aggregate-put-if
-    put-if-requires
-    add-t
+    least-requires
+    cast-t9
+    slice-aggregate-put
+    put-requires
+    without-least-requires
     loop-less
     loop-again
     same-length

@@ -30,20 +30,15 @@ add-part c = search needs
 part-requires : tie.Need-part-requires
 part-requires c κs = search needs
 
-cast-put-head : tie.Need-cast-put-head
-cast-put-head c =
-    let p = c .before in
-    let a = p .before .before .before .before .before .before .args in
-    omega (arith, ap length (p .part .ensures), length-take (p .before .before .before .wide .result) (drop (11 * a .n + 3) (a .paths .now)))
+cast-size : tie.Need-cast-size
+cast-size c =
+    let a = c .before .before .before .before .before .before .args in
+    omega (arith, ap length (c .part .ensures), length-take (c .before .before .before .wide .result) (drop (11 * a .n + 3) (a .paths .now)))
 
-add-put-head : tie.Need-add-put-head
-add-put-head c =
-    let p = c .before in
-    let a = p .before .before .before .before .before .before .args in
-    omega (arith, ap length (p .part .ensures), length-take (p .before .before .before .wide .result) (drop (11 * a .n + 3) (a .paths .now)))
-
-put-head-requires : tie.Need-put-head-requires
-put-head-requires c κs = search needs
+add-size : tie.Need-add-size
+add-size c =
+    let a = c .before .before .before .before .before .before .args in
+    omega (arith, ap length (c .part .ensures), length-take (c .before .before .before .wide .result) (drop (11 * a .n + 3) (a .paths .now)))
 
 element-copy-out-initiator : tie.Need-element-copy-out-initiator
 element-copy-out-initiator c = search needs
@@ -53,6 +48,15 @@ add-target c = search needs
 
 element-copy-out-target : tie.Need-element-copy-out-target
 element-copy-out-target c = search needs
+
+cast-t16 : tie.Need-cast-t16
+cast-t16 c =
+    let p = c .before .before in
+    let a = p .before .before .before .before .before .before .args in
+    omega (arith, ap length (p .part .ensures), length-take (p .before .before .before .wide .result) (drop (11 * a .n + 3) (a .paths .now)))
+
+cast-t26 : tie.Need-cast-t26
+cast-t26 c = search needs
 
 slice-aggregate-put : tie.Need-slice-aggregate-put
 slice-aggregate-put c = search needs
@@ -69,13 +73,13 @@ same-length c = search needs
 returns-2 : tie.Need-returns-2
 unfolding pathLinks
 returns-2 c =
-    let h = c .before .before .before .before .before .before .before .before .before .before .before .before .before in
-    let p = h .before .before in
+    let s = c .before .before .before .before .before .before in
+    let p = s .before .before .before .before .before in
     let w = p .before .before .before in
     let a = w .before .before .before .args in
     let row = drop (11 * a .n + 3) (a .paths .now) in
     path-puts (a .paths .now) (a .n) (λ e. p .before .before .if1 .left (w .wide .ensures .0 ∙ e)) (p .part .ensures ∙ ap (λ (k : ℕ). take k row) (w .wide .ensures .0))
-    (h .put-head .ensures) (c .before .before .before .before .before .before .put .ensures) (c .before .before .put2 .ensures)
+    (s .put .ensures) (c .before .before .put2 .ensures)
 
 pub put-path-spec : {M : Type 1} → statement M
 put-path-spec =
@@ -88,12 +92,13 @@ put-path-spec =
     returns
     add-part
     part-requires
-    cast-put-head
-    add-put-head
-    put-head-requires
+    cast-size
+    add-size
     element-copy-out-initiator
     add-target
     element-copy-out-target
+    cast-t16
+    cast-t26
     slice-aggregate-put
     put-requires
     put-requires-2

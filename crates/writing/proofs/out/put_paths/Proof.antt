@@ -7,13 +7,13 @@ use Rattle.writing.proofs.out.put_paths.Statement.{statement}
 use Rattle.writing.proofs.out.put_paths.Tie as tie
 
 abbrev Inv-loop : tie.InvT-loop
-Inv-loop out₀ at paths k₀ n₀ out k n = Turns (pathBytes paths) 128 out₀ at out k n
+Inv-loop out₀ at paths rows k₀ n₀ out k n = Turns (pathBytes paths) rows out₀ at out k n
 
 abbrev μ-loop : tie.MeasureT-loop
-μ-loop out₀ at paths k₀ n₀ out k n = 128 - n
+μ-loop out₀ at paths rows k₀ n₀ out k n = rows - n
 
 loop-holds : tie.Need-loop-holds Inv-loop μ-loop
-loop-holds c = let a = c .before .args in turns-begin (pathBytes (a .paths .now)) 128 (a .out .now) (a .at)
+loop-holds c = let a = c .before .args in turns-begin (pathBytes (a .paths .now)) (a .rows) (a .out .now) (a .at)
 
 put-path-requires : tie.Need-put-path-requires Inv-loop μ-loop
 put-path-requires c κs = search needs

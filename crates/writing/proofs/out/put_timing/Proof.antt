@@ -4,8 +4,11 @@ use borrow.Author.Needs.{needs}
 use Rattle.writing.proofs.out.put_timing.Statement.{statement}
 use Rattle.writing.proofs.out.put_timing.Tie as tie
 
-put-head-requires : tie.Need-put-head-requires
-put-head-requires c κs = search needs
+slice-aggregate-put : tie.Need-slice-aggregate-put
+slice-aggregate-put c = search needs
+
+put-requires : tie.Need-put-requires
+put-requires c κs = search needs
 
 put-four-requires : tie.Need-put-four-requires
 put-four-requires c κs = search needs
@@ -19,10 +22,16 @@ same-length c = search needs
 returns : tie.Need-returns
 returns c =
     let h = c .before .before .before .before .before .before .before .before .before .before in
-    let a = h .before .before .before .args in
-    timing-puts (a .least) (a .greatest) (h .put-head .ensures) (c .before .before .before .before .before .before .put-four .ensures) (c .before .before .put-four2 .ensures)
+    let a = h .before .before .before .before .args in
+    timing-puts (a .least) (a .greatest) (h .put .ensures) (c .before .before .before .before .before .before .put-four .ensures) (c .before .before .put-four2 .ensures)
 
 pub put-timing-spec : {M : Type 1} → statement M
 put-timing-spec =
     tie.close
-    (tie.spec put-head-requires put-four-requires put-four-requires-2 same-length returns)
+    (tie.spec
+    slice-aggregate-put
+    put-requires
+    put-four-requires
+    put-four-requires-2
+    same-length
+    returns)

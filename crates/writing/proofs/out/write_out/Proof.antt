@@ -42,8 +42,23 @@ element-copy-out-put-links c = search needs
 put-links-requires : tie.Need-put-links-requires
 put-links-requires c κs = search needs
 
+element-copy-out-at-most : tie.Need-element-copy-out-at-most
+element-copy-out-at-most c = search needs
+
+at-most-requires : tie.Need-at-most-requires
+at-most-requires c κs = search needs
+
 put-paths-requires : tie.Need-put-paths-requires
 put-paths-requires c κs = search needs
+
+element-copy-out-at-most-2 : tie.Need-element-copy-out-at-most-2
+element-copy-out-at-most-2 c = search needs
+
+at-most-requires-2 : tie.Need-at-most-requires-2
+at-most-requires-2 c κs = search needs
+
+mul-put-entries : tie.Need-mul-put-entries
+mul-put-entries c = search needs
 
 put-entries-requires : tie.Need-put-entries-requires
 put-entries-requires c κs = search needs
@@ -58,14 +73,14 @@ returns-3 : tie.Need-returns-3
 returns-3 c =
     let t = c .before .before in
     let e = t .before .before .before .before in
-    let p = e .before .before .before .before in
-    let l = p .before .before .before .before in
+    let p = e .before .before .before .before .before .before in
+    let l = p .before .before .before .before .before .before in
     let d = l .before .before .before .before .before in
     let i = d .before .before .before .before in
     let a = i .before .before .before .before .before .before .args in
     writes (a .sets .now) (a .ends .now) (a .rows .now) (a .reach .now) (a .paths .now) (a .spans .now) (a .aims .now) (a .numbers .now) (a .out .now) (i .before .before .if1 .left) (i .if2 .left)
     (out-puts (a .sets .now) (a .ends .now) (a .rows .now) (a .paths .now) (a .spans .now) (a .aims .now) (a .numbers .now)
-    (d .put-devices .ensures) (l .put-links .ensures) (p .put-paths .ensures) (e .put-entries .ensures) (t .put-timing .ensures))
+    (d .put-devices .ensures) (l .put-links .ensures) (p .before .at-most .ensures) (p .put-paths .ensures) (e .before .at-most2 .ensures) (e .put-entries .ensures) (t .put-timing .ensures))
 
 pub write-out-spec : {M : Type 1} → statement M
 write-out-spec =
@@ -83,7 +98,12 @@ write-out-spec =
     put-devices-requires
     element-copy-out-put-links
     put-links-requires
+    element-copy-out-at-most
+    at-most-requires
     put-paths-requires
+    element-copy-out-at-most-2
+    at-most-requires-2
+    mul-put-entries
     put-entries-requires
     put-timing-requires
     same-length
