@@ -21,7 +21,7 @@ pub fn put_bytes(out: &mut [u8], at: usize, s: &[u8]) -> usize
     at + i
 }
 
-// The same where they have room, and nothing otherwise.
+// The same where they have room; where they have none, nothing is asked of the answer and of the buffer.
 pub fn put(out: &mut [u8], at: usize, s: &[u8]) -> usize
     ensures { λ r. ⌜ Puts (now (out .entry)) at (now (s .entry)) (now (out .exit)) r ⌝ }
 {
@@ -35,19 +35,16 @@ pub fn put(out: &mut [u8], at: usize, s: &[u8]) -> usize
     put_bytes(out, at, s)
 }
 
-// Puts the decimal digits of n at a place, and answers the next one.
-fn put_decimal(out: &mut [u8], at: usize, n: u16) -> usize
-    requires { ⌜ at + length (decimal n) ≤ length (now out) ⌝ }
-    ensures { λ r. ⌜ Put (now (out .entry)) at (decimal n) (now (out .exit)) r ⌝ }
+// Puts the decimal digits of n in the same way.
+pub fn put_decimal(out: &mut [u8], at: usize, n: u64) -> usize
+    ensures { λ r. ⌜ Puts (now (out .entry)) at (decimal n) (now (out .exit)) r ⌝ }
 {
+    let digit = [48 + (n % 10) as u8];
     if n < 10 {
-        out[at] = 48 + n as u8;
-        at + 1
-    } else {
-        let k = put_decimal(out, at, n / 10);
-        out[k] = 48 + (n % 10) as u8;
-        k + 1
+        return put(out, at, &digit);
     }
+    let k = put_decimal(out, at, n / 10);
+    put(out, k, &digit)
 }
 
 // A space, and the decimal digits of n.
@@ -56,7 +53,7 @@ fn put_number(out: &mut [u8], at: usize, n: u16) -> usize
     ensures { λ r. ⌜ Put (now (out .entry)) at (spaced n) (now (out .exit)) r × (r ≤ at + 6) ⌝ }
 {
     out[at] = 32;
-    put_decimal(out, at + 1, n)
+    put_decimal(out, at + 1, n as u64)
 }
 
 // Each of the numbers, a space before it.

@@ -2,22 +2,19 @@
 use mathlib.Core.Path.{_≡_, refl, sym, _∙_}
 use mathlib.Core.Logic.{_↔_}
 use mathlib.Core.List.{List, [], _∷_}
-use mathlib.Core.Option.{Option·getD}
 use mathlib.Core.Bool.{Bool, true, false, cond}
 use Prim.Native.Nat.{ℕ}
 use lib.ListN.{replicate}
 use borrow.Author.Tests.{eqb-true}
 use Rattle.plan_rules.specs.Plan.{nth, Timing, Plan, blank}
-use Rattle.plan_rules.specs.Verdict.{number}
-use Rattle.plan_rules.specs.Judge.{judge}
 use Rattle.plan_rules.specs.Canon.{canonical, given, planOf}
 use Rattle.plan_rules.specs.laws.Accepted.{accepted-good}
 use Rattle.plan_memory.specs.Memory as plan
 use Rattle.plan_memory.specs.Memory.{leastOf, greatestOf, numbersWith, numbersOf}
 use Rattle.plan_memory.specs.laws.SameMemory.{holds-canonical}
 use Rattle.box_rules.specs.declared.Watchdog.{Watchdog}
-use Rattle.box_rules.specs.State.{Box, idle, cleared, watchdogCleared, holding, timingOf, watchdogFor, isAccepted, loaded, watchdogLoaded, thePlan}
-use Rattle.initiators.specs.Run.{lastOf, Runs}
+use Rattle.box_rules.specs.State.{cleared, watchdogCleared, holding, timingOf, watchdogFor, isAccepted, loaded, watchdogLoaded, thePlan}
+use Rattle.initiators.specs.Run.{lastOf}
 use Rattle.plan.specs.Load.{left}
 use Rattle.calls.specs.Box.{Holds}
 use Rattle.calls.specs.laws.Idle.{idle-run}

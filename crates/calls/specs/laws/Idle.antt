@@ -1,6 +1,6 @@
 -- Run memory where nothing waits, nothing is live, and no time-code was seen: all 0, whatever the plan.
 use mathlib.Core.Path.{_≡_, refl, ap, _∙_, fun-ext}
-use mathlib.Core.List.{List, flatMap}
+use mathlib.Core.List.{flatMap}
 use mathlib.Core.Option.{Option, none, some}
 use Prim.Native.Nat.{ℕ}
 use lib.ListN.{replicate}
@@ -9,7 +9,7 @@ use Rattle.lists.specs.Place.{atPlace}
 use Rattle.lists.specs.Cells.{padded}
 use Rattle.plan_rules.specs.Plan.{Plan}
 use Rattle.plan_rules.specs.Meaning.{initiators}
-use Rattle.box_rules.specs.State.{Side, idle}
+use Rattle.box_rules.specs.State.{idle}
 use Rattle.initiators.specs.Run.{liveWord, liveTime, rowOf, sideOf, rowsWith, runOf}
 
 all-idle : rowsWith (λ r. idle) ≡ replicate 96 0

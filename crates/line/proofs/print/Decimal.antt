@@ -3,10 +3,10 @@
 use mathlib.Core.Path.{_≡_, refl, sym, ap, _∙_}
 use mathlib.Core.List.{List, [], _∷_, _++_, append-assoc}
 use Prim.Native.Nat.{ℕ, zero, suc, _+_, _/_, _%_, _^_, _≤_, _<_}
-use native.Mathlib.Nat.{pow-suc, mod-eq-of-lt}
+use native.Mathlib.Nat.{pow-suc}
 use native.Mathlib.Decide.{decLt}
 use native.Mathlib.Omega.{arith}
-use lib.ListN.{length, length-append}
+use lib.ListN.{length}
 use borrow.Author.Tests.{lt-ltb, le-ltb}
 use Rattle.plan_rules.specs.Print.{digits, decimal}
 
@@ -53,23 +53,17 @@ short (suc k) n rest = go (short k (n / 10) ((48 + n % 10) ∷ rest)) (decLt n 1
     go ih (no h) = omega (arith, ap length (last-digit k n rest h))
 
 -- a number below ten is one digit; any other has a last digit behind the digits of its tenth
-pub decimal-small : (n : ℕ) → n < 10 → decimal n ≡ (48 + n) ∷ []
+pub decimal-small : (n : ℕ) → n < 10 → decimal n ≡ (48 + n % 10) ∷ []
 unfolding decimal
-decimal-small n h = one-digit 19 n [] h ∙ ap (λ (d : ℕ). (48 + d) ∷ []) (mod-eq-of-lt h)
+decimal-small n h = one-digit 19 n [] h
 
-pub decimal-more : (n : ℕ) → 10 ≤ n → n < 65_536 → decimal n ≡ decimal (n / 10) ++ ((48 + n % 10) ∷ [])
+pub decimal-more : (n : ℕ) → 10 ≤ n → n < 18_446_744_073_709_551_616 → decimal n ≡ decimal (n / 10) ++ ((48 + n % 10) ∷ [])
 unfolding decimal
 decimal-more n l h =
     last-digit 19 n [] (omega arith) ∙ in-front 19 (n / 10) ((48 + n % 10) ∷ [])
     ∙ ap (λ (ds : List ℕ). ds ++ ((48 + n % 10) ∷ [])) (stable 18 19 (n / 10) [] (omega arith) (omega arith))
 
 -- how many digits there are
-pub small-length : (n : ℕ) → n < 10 → length (decimal n) ≡ 1
-small-length n h = ap length (decimal-small n h)
-
-pub more-length : (n : ℕ) → 10 ≤ n → n < 65_536 → length (decimal n) ≡ length (decimal (n / 10)) + 1
-more-length n l h = ap length (decimal-more n l h) ∙ length-append (decimal (n / 10)) ((48 + n % 10) ∷ [])
-
 pub decimal-length : (n : ℕ) → n < 65_536 → length (decimal n) ≤ 5
 unfolding decimal
 decimal-length n h = omega (arith, ap length (stable 19 4 n [] (omega arith) (omega arith)), short 5 n [])

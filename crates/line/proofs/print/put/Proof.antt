@@ -1,4 +1,4 @@
--- `line::put` meets its contract: bytes that have room are put, and of others nothing is asked. Assumes nothing.
+-- `line::print::put` meets its contract: bytes that have room are put, and of others nothing is asked. Assumes nothing.
 use borrow.Author.Needs.{needs}
 use Rattle.lists.specs.laws.Puts.{puts-over}
 use Rattle.line.proofs.print.put.Statement.{statement}

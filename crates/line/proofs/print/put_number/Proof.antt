@@ -16,7 +16,7 @@ add-put-decimal : tie.Need-add-put-decimal
 add-put-decimal c = search needs
 
 put-decimal-requires : tie.Need-put-decimal-requires
-put-decimal-requires c κs = let n = decimal-length (c .before .before .args .n) (omega arith) in simp length-set (omega arith)
+put-decimal-requires c κs = search needs
 
 same-length : tie.Need-same-length
 same-length c = c .before .before .put-decimal .kept .0 ∙ simp length-set
@@ -25,8 +25,8 @@ returns : tie.Need-returns
 unfolding spaced
 returns c =
     let a = c .before .before .before .before .before .args in
-    let d = c .before .before .put-decimal .ensures in
     let n = decimal-length (a .n) (omega arith) in
+    let d = c .before .before .put-decimal .ensures .fitting (simp length-set (omega arith)) in
     (put-then (put-one (a .out .now) (a .at) 32) d, omega (arith, d .next))
 
 pub put-number-spec : {M : Type 1} → statement M

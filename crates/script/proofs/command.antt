@@ -1,0 +1,3 @@
+-- Laws of commands.
+pub mod Made
+pub mod Names

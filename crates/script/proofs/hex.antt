@@ -1,0 +1,3 @@
+-- Laws of bytes in hex.
+pub mod Values
+pub mod Pairs

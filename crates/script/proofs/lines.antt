@@ -1,0 +1,3 @@
+-- Laws of an answer line.
+pub mod Rows
+pub mod Text

@@ -1,0 +1,81 @@
+// Bytes in lowercase hex.
+ghost use mathlib.Core.Path.{_≡_};
+ghost use mathlib.Core.List.{_++_};
+ghost use Prim.Native.Nat.{_<_};
+ghost use lib.ListN.{length, drop};
+ghost use Rattle.lists.specs.Search.{all, isSome};
+ghost use Rattle.script.specs.Script.{isHex, hexOf, bytesOf, decoded};
+
+fn is_hex(c: u8) -> bool
+    ensures { λ r. ⌜ r ≡ isHex c ⌝ }
+{
+    match c {
+        b'0'..=b'9' | b'a'..=b'f' => true,
+        _ => false,
+    }
+}
+
+fn hex_of(c: u8) -> u8
+    ensures { λ r. ⌜ (r ≡ hexOf c) × (r < 16) ⌝ }
+{
+    match c {
+        b'0'..=b'9' => c - b'0',
+        b'a'..=b'f' => 10 + (c - b'a'),
+        _ => 0,
+    }
+}
+
+fn all_hex(s: &[u8]) -> bool
+    ensures { λ r. ⌜ r ≡ all isHex (now (s .entry)) ⌝ }
+{
+    let mut i = 0;
+    while i < s.len() {
+        if !is_hex(s[i]) {
+            return false;
+        }
+        i += 1;
+    }
+    true
+}
+
+// Whether a word is a byte string that may be loaded.
+pub(crate) fn is_bytes(word: &[u8]) -> bool
+    ensures { λ r. ⌜ r ≡ isSome (bytesOf (now (word .entry))) ⌝ }
+{
+    let n = word.len();
+    if n == 0 {
+        return false;
+    }
+    if n == 1 {
+        return word[0] == b'-';
+    }
+    if n > 32_800 {
+        return false;
+    }
+    if n % 2 != 0 {
+        return false;
+    }
+    all_hex(word)
+}
+
+// Puts the bytes of a word at the front of out, and answers how many there are: none where the word is no byte string or out is too
+// short. Room beyond keeps its bytes.
+pub fn decode(word: &[u8], out: &mut [u8]) -> usize
+    ensures { λ r. ⌜ (r ≡ length (decoded (length (now (out .entry))) (now (word .entry)))) × (now (out .exit) ≡ decoded (length (now (out .entry))) (now (word .entry)) ++ drop r (now (out .entry))) ⌝ }
+{
+    if !is_bytes(word) {
+        return 0;
+    }
+    let n = word.len() / 2;
+    if out.len() < n {
+        return 0;
+    }
+    let mut i = 0;
+    while i < n {
+        let high = hex_of(word[2 * i]);
+        let low = hex_of(word[2 * i + 1]);
+        out[i] = 16 * high + low;
+        i += 1;
+    }
+    n
+}
