@@ -1,5 +1,5 @@
 -- `step_with` meets its contract: the event is one of the four. Assumes nothing.
-use Rattle.events.proofs.step.Events.{by-time-code, by-request, by-reply, by-reading}
+use Rattle.events.specs.laws.Events.{by-time-code, by-request, by-reply, by-reading}
 use borrow.Author.Needs.{needs}
 use Rattle.events.proofs.step.step_with.Statement.{statement}
 use Rattle.events.proofs.step.step_with.Tie as tie

@@ -1,0 +1,3 @@
+pub mod Fives
+pub mod Verdicts
+pub mod Judged

@@ -1,0 +1,157 @@
+-- A verdict on a file can be told from its numbers: none of them is cut, and a fault of a field is neither 0 nor 13 nor 14.
+use mathlib.Core.Path.{_≡_, refl, sym, ap, _∙_}
+use mathlib.Core.Logic.{_≢_}
+use mathlib.Core.List.{List, [], _∷_, _++_, cons≢nil}
+use mathlib.Core.Option.{Option, none, some}
+use mathlib.Core.Bool.{Bool, true, false, _&&_}
+use Prim.Native.Nat.{ℕ, zero, suc, _≤_, _<_}
+use native.Mathlib.Omega.{arith}
+use lib.ListN.{length}
+use lib.Dec.{ltb, leb, eqb}
+use borrow.Author.Tests.{ltb-true, ltb-false, leb-true, leb-false, eqb-false}
+use Rattle.lists.specs.Search.{all}
+use Rattle.lists.specs.Rows.{Row, firstOf}
+use Rattle.lists.specs.Cells.{padded}
+use Rattle.lists.specs.laws.Bools.{both-true, cond-cases, none-some, when-some}
+use Rattle.lists.specs.laws.Search.{least-first}
+use Rattle.plan_rules.specs.declared.Verdict.{Verdict}
+use Rattle.plan_rules.specs.declared.Verdict.the-variants.{Accepted, Faulty, Overrun, Clash}
+use Rattle.plan_rules.specs.Plan.{Timing, Entry, Plan, Item, blank}
+use Rattle.plan_rules.specs.Fields.{tagAt, nextAt, itemAt}
+use Rattle.plan_rules.specs.Meaning.{isAtWork}
+use Rattle.plan_rules.specs.Verdict.{number, place}
+use Rattle.plan_rules.specs.Judge.{headRows, itemRows, fieldRows, fieldFault, withField, Reading, plan, fault, readFrom, readFile, overrunAt, overrunOf, overrun, clashOn, clashWith, clashOf, clashIn, clash, counts, judge}
+use Rattle.plan_rules.specs.laws.Reading.{not-plan}
+use Rattle.plan_rules.specs.laws.Whole.{Clean, clean-counts}
+use Rattle.plan_rules.specs.laws.Accepted.{clean-good}
+use Rattle.plan_rules.specs.laws.Size.{most-devices, most-links, most-entries}
+use Rattle.plan_rules.specs.laws.Verdicts.{too-long, field-faulty, without-timing, with-overrun, with-clash}
+use Rattle.c_numbers.specs.Numbers.{verdictNumbers, verdictOf}
+use Rattle.c_numbers.specs.laws.Verdicts.{accepted, overran, clashed, faulty}
+
+-- its numbers have the widths that a verdict has for them
+unfoldable Narrow : Verdict → Type 0
+Narrow (Accepted d l p e) = (d < 256) × (l < 256) × (p < 256) × (e < 65_536)
+Narrow (Faulty n at) = (0 < n) × (n < 13) × (at < 65_536)
+Narrow (Overrun i s) = (i < 256) × (s < 256)
+Narrow (Clash s i j l) = (s < 256) × (i < 256) × (j < 256) × (l < 256)
+
+narrow-back : (v : Verdict) → Narrow v → verdictOf (verdictNumbers v) ≡ v
+unfolding Narrow verdictNumbers padded number place
+narrow-back (Accepted d l p e) (a, b, c, f) = sym (accepted (verdictNumbers (Accepted d l p e)) refl (omega arith) (omega arith) (omega arith) (omega arith))
+narrow-back (Faulty n at) (a, b, c) = sym (faulty (verdictNumbers (Faulty n at)) (λ e. omega arith) (λ e. omega arith) (λ e. omega arith) (omega arith) (omega arith))
+narrow-back (Overrun i s) (a, b) = sym (overran (verdictNumbers (Overrun i s)) refl (omega arith) (omega arith))
+narrow-back (Clash s i j l) (a, b, c, f) = sym (clashed (verdictNumbers (Clash s i j l)) refl (omega arith) (omega arith) (omega arith) (omega arith))
+
+-- a field's fault is 11 at most
+rows-most : (m : ℕ) (rs : List Row) → all (λ (r : Row). leb (r .0) m) rs ≡ true → firstOf rs ≤ m
+unfolding firstOf all
+rows-most m [] h = omega arith
+rows-most m (r ∷ rs) h =
+    let q = both-true (leb (r .0) m) (all (λ (r : Row). leb (r .0) m) rs) h in
+    cond-cases (λ (n : ℕ). n ≤ m) (r .1) (r .0) (firstOf rs) (λ _. leb-true (r .0) m (q .0)) (λ _. rows-most m rs (q .1))
+
+fault-most : (p : Plan) (s : List ℕ) (at before : ℕ) → fieldFault p s at before ≤ 11
+unfolding fieldFault fieldRows headRows itemRows all
+fault-most p s at before = by (itemAt s at)
+  where
+    by : (o : Option Item) → firstOf (headRows s at before ++ elim o [ none ↦ [] | some x ↦ itemRows p x ]) ≤ 11
+    by none = rows-most 11 _ refl
+    by (some x) = rows-most 11 _ refl
+
+-- a fault that is read is a field's, within the file
+read-fault : (k : ℕ) (s : List ℕ) (at before : ℕ) (p : Plan) (n off : ℕ) → readFrom k s at before p ≡ fault n off → (0 < n) × (n < 13) × (off < length s)
+unfolding readFrom
+read-fault zero s at before p n off h = not-plan (sym h)
+read-fault (suc k) s at before p n off h = go (read-fault k s (nextAt s at) (tagAt s at) (withField p s at) n off) (leb (length s) at) refl (eqb (fieldFault p s at before) 0) refl
+  where
+    go : (readFrom k s (nextAt s at) (tagAt s at) (withField p s at) ≡ fault n off → (0 < n) × (n < 13) × (off < length s))
+        → (x : Bool) → leb (length s) at ≡ x → (y : Bool) → eqb (fieldFault p s at before) 0 ≡ y → (0 < n) × (n < 13) × (off < length s)
+    go ih true e y f = not-plan (sym (rw (e, readFrom) at h))
+    go ih false e true f = ih (rw (e, f, readFrom) at h)
+    go ih false e false f =
+        let g : fault (fieldFault p s at before) at ≡ fault n off = rw (e, f, readFrom) at h in
+        let number : fieldFault p s at before ≡ n = cc in
+        let offset : at ≡ off = cc in
+        let some : n ≢ 0 = λ z. eqb-false (fieldFault p s at before) 0 f (number ∙ z) in
+        let most = fault-most p s at before in
+        let inside = leb-false (length s) at e in
+        (omega arith, omega arith, omega arith)
+
+-- behind a test
+behind : {A : Type 0} (b : Bool) (o : Option A) {x : A} → elim b [ false ↦ none | true ↦ o ] ≡ some x → o ≡ some x
+behind true o e = e
+behind false o e = none-some e
+
+-- what the searches find lies below 64
+module _ (p : Plan) (es : List Entry) (v : Verdict) where
+  overran-at : (i s : ℕ) → i < 64 → s < 64 → overrunAt es i s ≡ some v → Narrow v
+  unfolding overrunAt Narrow
+  overran-at i s a b e = rw (← (when-some _ _ v e) .1) (omega arith, omega arith)
+
+  overrun-narrow : overrun es ≡ some v → Narrow v
+  unfolding overrun overrunOf
+  overrun-narrow e =
+      let a = least-first (overrunOf es) v e in
+      let b = least-first (overrunAt es (a .at)) v (a .here) in
+      overran-at (a .at) (b .at) (a .within) (b .within) (b .here)
+
+  clashed-on : (s i j l : ℕ) → s < 64 → i < 64 → j < 64 → l < 64 → clashOn p es s i j l ≡ some v → Narrow v
+  unfolding clashOn Narrow
+  clashed-on s i j l a b c d e = rw (← (when-some _ _ v e) .1) (omega arith, omega arith, omega arith, omega arith)
+
+  clashed-with : (s i j : ℕ) → s < 64 → i < 64 → j < 64 → clashWith p es s i j ≡ some v → Narrow v
+  unfolding clashWith
+  clashed-with s i j a b c e =
+      let d = least-first (clashOn p es s i j) v (behind (ltb i j && isAtWork es s j) _ e) in
+      clashed-on s i j (d .at) a b c (d .within) (d .here)
+
+  clashed-of : (s i : ℕ) → s < 64 → i < 64 → clashOf p es s i ≡ some v → Narrow v
+  unfolding clashOf
+  clashed-of s i a b e =
+      let c = least-first (clashWith p es s i) v (behind (isAtWork es s i) _ e) in
+      clashed-with s i (c .at) a b (c .within) (c .here)
+
+  clash-narrow : clash p es ≡ some v → Narrow v
+  unfolding clash clashIn
+  clash-narrow e =
+      let a = least-first (clashIn p es) v e in
+      let b = least-first (clashOf p es (a .at)) v (a .here) in
+      clashed-of (a .at) (b .at) (a .within) (b .within) (b .here)
+
+module _ (s : List ℕ) where
+  counts-narrow : (p : Plan) → Clean s p → Narrow (counts p)
+  unfolding counts Narrow
+  counts-narrow p c =
+      let good = clean-good s p c in
+      (omega (arith, most-devices p good), omega (arith, most-links p good), omega (arith, good .most), omega (arith, most-entries p good))
+
+  whole-narrow : length s ≤ 16_384 → (p : Plan) → readFile s ≡ plan p → Narrow (judge s)
+  unfolding Narrow
+  whole-narrow short p reads = go (p .timings) refl
+    where
+      timed : p .timings ≢ [] → (x : Option Verdict) → overrun (p .entries) ≡ x → (y : Option Verdict) → clash p (p .entries) ≡ y → Narrow (judge s)
+      timed t (some v) f y g = rw (with-overrun s short p reads t v f) (overrun-narrow p (p .entries) v f)
+      timed t none f (some v) g = rw (with-clash s short p reads t v f g) (clash-narrow p (p .entries) v g)
+      timed t none f none g =
+          let clean : Clean s p = record { short = short; reads = reads; timing = t; no-overrun = f; no-clash = g } in
+          rw (clean-counts s p clean) (counts-narrow p clean)
+
+      go : (ts : List Timing) → p .timings ≡ ts → Narrow (judge s)
+      go [] e = rw (without-timing s short p reads e) (omega arith, omega arith, omega arith)
+      go (t ∷ ts) e = timed (λ z. cons≢nil (sym e ∙ z)) (overrun (p .entries)) refl (clash p (p .entries)) refl
+
+  judge-narrow : Narrow (judge s)
+  unfolding readFile Narrow
+  judge-narrow = go (ltb 16_384 (length s)) refl (readFile s) refl
+    where
+      go : (x : Bool) → ltb 16_384 (length s) ≡ x → (r : Reading) → readFile s ≡ r → Narrow (judge s)
+      go true e r f = rw (too-long s (ltb-true 16_384 (length s) e)) (omega arith, omega arith, omega arith)
+      go false e (fault n at) f =
+          let short = ltb-false 16_384 (length s) e in
+          let h = read-fault (length s) s 0 0 blank n at f in
+          rw (field-faulty s short n at f) (h .0, h .1, omega (arith, h .2))
+      go false e (plan p) f = whole-narrow (ltb-false 16_384 (length s) e) p f
+
+  pub judged : {ns : List ℕ} → ns ≡ verdictNumbers (judge s) → verdictOf ns ≡ judge s
+  judged e = ap verdictOf e ∙ narrow-back (judge s) judge-narrow

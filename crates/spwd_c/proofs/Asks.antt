@@ -1,0 +1,39 @@
+-- An answer that is yes or no as the number 1 or 0.
+use mathlib.Core.Path.{_≡_, refl}
+use mathlib.Core.Logic.{_↔_}
+use mathlib.Core.Bool.{Bool, true, false}
+use mathlib.Core.List.{List}
+use mathlib.Core.Option.{Option, some}
+use Prim.Native.Nat.{ℕ, _≤_}
+use native.Mathlib.Omega.{arith}
+use mir.Val.{boolByte}
+use Rattle.lists.specs.laws.Bools.{not-both}
+use Rattle.plan_rules.specs.Plan.{Plan}
+use Rattle.plan_rules.specs.Verdict.{number}
+use Rattle.plan_rules.specs.Judge.{judge}
+use Rattle.plan_rules.specs.Canon.{planOf}
+use Rattle.plan_memory.specs.Memory.{Holds}
+use Rattle.plan_memory.specs.Held.{Held}
+use Rattle.plan.specs.Load.{left}
+use Rattle.box_rules.specs.declared.Watchdog.{Watchdog}
+use Rattle.box_rules.specs.State.{cleared, watchdogCleared}
+use Rattle.calls.specs.Calls.{Memory, At}
+use Rattle.c_numbers.specs.Five.{watchdogOf}
+use Rattle.spwd_c.specs.Exports.{IsBlank, HoldsIt}
+
+at-most-1 : (b : Bool) → boolByte b ≤ 1
+at-most-1 true = omega arith
+at-most-1 false = omega arith
+
+as-number : (b : Bool) {P : Type 0} → (b ≡ true) ↔ P → (boolByte b ≡ 1) ↔ P
+as-number true f = (λ e. (f .0) refl, λ p. refl)
+as-number false f = (λ e. absurd (omega arith), λ p. not-both ((f .1) p) refl)
+
+pub is-blank : (m : Memory) {five : List ℕ} {w : Watchdog} (b : Bool) → w ≡ watchdogOf five → (b ≡ true) ↔ ((w ≡ watchdogCleared) × At m cleared) → IsBlank m five (boolByte b)
+is-blank m b e f = record { most = at-most-1 b; says = as-number b (rw e at f) }
+
+pub holds-it : {file sets ends rows reach paths spans aims numbers sets′ ends′ rows′ reach′ paths′ spans′ aims′ numbers′ : List ℕ} (b : Bool)
+    → ((o : Option Plan) → Held o sets ends rows reach paths spans aims numbers → (b ≡ true) ↔ ((number (judge file) ≡ 0) × (o ≡ some (planOf file))))
+    → Holds (left file) sets′ ends′ rows′ reach′ paths′ spans′ aims′ numbers′
+    → HoldsIt file sets ends rows reach paths spans aims numbers sets′ ends′ rows′ reach′ paths′ spans′ aims′ numbers′ (boolByte b)
+holds-it b f h = record { most = at-most-1 b; says = λ o held. as-number b (f o held); beside = h }

@@ -1,0 +1,88 @@
+-- What each export answers and leaves: its contract. A name with ′ is what an array holds afterwards; what has none is what it held
+-- before, or what is lent only to be read.
+use mathlib.Core.Path.{_≡_}
+use mathlib.Core.Logic.{_↔_}
+use Prim.Native.Nat.{ℕ, _≤_}
+use mathlib.Core.List.{List, _++_}
+use mathlib.Core.Option.{Option, some}
+use lib.ListN.{length, drop}
+use Rattle.plan_rules.specs.Plan.{Plan}
+use Rattle.plan_rules.specs.Verdict.{number}
+use Rattle.plan_rules.specs.Judge.{judge}
+use Rattle.plan_rules.specs.Canon.{planOf}
+use Rattle.plan_rules.specs.Copy.{copyAnswer, copied}
+use Rattle.plan_rules.specs.Print as print
+use Rattle.plan_memory.specs.Memory as plan
+use Rattle.plan_memory.specs.Held.{Held}
+use Rattle.plan.specs.Load.{left}
+use Rattle.box_rules.specs.declared.Event.the-variants.{TimeCode, Request, Reply, Reading}
+use Rattle.box_rules.specs.declared.Answer.{Answer}
+use Rattle.box_rules.specs.declared.Watchdog.{Watchdog}
+use Rattle.box_rules.specs.State.{cleared, watchdogCleared}
+use Rattle.box_rules.specs.Answer.{values}
+use Rattle.events.specs.Values.{listed}
+use Rattle.calls.specs.Calls.{Memory, At, ClearLeaves, LoadLeaves, Steps}
+use Rattle.c_numbers.specs.Five.{watchdogOf, AreFive}
+use Rattle.c_numbers.specs.Numbers.{verdictNumbers, verdictOf, sizedNumbers}
+
+-- `spwd_c_clear`
+pub record Clears (m′ : Memory) (five′ : List ℕ) : Type 0 where
+  pub leaves : ClearLeaves m′ (watchdogOf five′)
+  pub whole : AreFive five′
+
+-- `spwd_c_load`
+pub record Loads (file : List ℕ) (m′ : Memory) (five′ verdict′ : List ℕ) : Type 0 where
+  pub leaves : LoadLeaves file (judge file) m′ (watchdogOf five′)
+  pub whole : AreFive five′
+  pub verdict : verdict′ ≡ verdictNumbers (judge file)
+
+-- document 01's eight numbers of an answer; which one, `Steps` says where memory holds a box
+pub record Answered (answer′ : List ℕ) (Does : Answer → Type 0) : Type 0 where
+  pub answer : Answer
+  pub numbers : answer′ ≡ listed (values answer)
+  pub does : Does answer
+
+-- `spwd_c_time_code`
+pub record TimeCodes (rows spans aims numbers run last five : List ℕ) (byte clock : ℕ) (records run′ last′ five′ records′ answer′ : List ℕ) : Type 0 where
+  pub steps : Answered answer′ λ a.
+      Steps rows spans aims numbers run last (watchdogOf five) records (TimeCode byte clock) a run′ last′ (watchdogOf five′) records′
+  pub whole : AreFive five′
+
+-- `spwd_c_request`. It is lent no last time-code, no five numbers and no record buffer: it is the step with any of these, and they stay.
+pub record Requests (rows spans aims numbers run : List ℕ) (initiator target kind size : ℕ) (run′ answer′ : List ℕ) : Type 0 where
+  pub steps : Answered answer′ λ a.
+      (last : List ℕ) (w : Watchdog) (records : List ℕ) → Steps rows spans aims numbers run last w records (Request initiator target kind size) a run′ last w records
+
+-- `spwd_c_reply`. The same, and it is not lent the entries either.
+pub record Replies (rows numbers run : List ℕ) (initiator transaction status : ℕ) (run′ answer′ : List ℕ) : Type 0 where
+  pub steps : Answered answer′ λ a.
+      (spans aims last : List ℕ) (w : Watchdog) (records : List ℕ) → Steps rows spans aims numbers run last w records (Reply initiator transaction status) a run′ last w records
+
+-- `spwd_c_reading`. It is lent only whether there is a plan, and the five numbers.
+pub record Readings (numbers five : List ℕ) (clock : ℕ) (five′ answer′ : List ℕ) : Type 0 where
+  pub steps : Answered answer′ λ a.
+      (rows spans aims run last records : List ℕ) → Steps rows spans aims numbers run last (watchdogOf five) records (Reading clock) a run last (watchdogOf five′) records
+  pub whole : AreFive five′
+
+-- `spwd_c_write_out`
+abbrev pub WritesOut : (sets ends rows reach paths spans aims numbers out out′ answer′ : List ℕ) → Type 0
+WritesOut sets ends rows reach paths spans aims numbers out out′ answer′ =
+    (o : Option Plan) → Held o sets ends rows reach paths spans aims numbers
+    → (answer′ ≡ sizedNumbers (copyAnswer (length out) o)) × (out′ ≡ copied o out)
+
+-- `spwd_c_print`: the line of the verdict of these numbers; those of a verdict on a file are of no other verdict
+pub record Prints (verdict line line′ : List ℕ) (r : ℕ) : Type 0 where
+  pub size : r ≡ length (print.line (verdictOf verdict))
+  pub bytes : line′ ≡ print.line (verdictOf verdict) ++ drop (length (print.line (verdictOf verdict))) line
+  pub judged : (file : List ℕ) → verdict ≡ verdictNumbers (judge file) → verdictOf verdict ≡ judge file
+
+-- `spwd_c_is_blank`: 1 where every number of the box is that of a clear, 0 where one is not
+pub record IsBlank (m : Memory) (five : List ℕ) (r : ℕ) : Type 0 where
+  pub most : r ≤ 1
+  pub says : (r ≡ 1) ↔ ((watchdogOf five ≡ watchdogCleared) × At m cleared)
+
+-- `spwd_c_holds`: 1 where the file is accepted and the box holds its plan, else 0. The memory beside the box's has the file's plan afterwards.
+pub record HoldsIt (file sets ends rows reach paths spans aims numbers sets′ ends′ rows′ reach′ paths′ spans′ aims′ numbers′ : List ℕ) (r : ℕ) : Type 0 where
+  pub most : r ≤ 1
+  pub says : (o : Option Plan) → Held o sets ends rows reach paths spans aims numbers → (r ≡ 1) ↔ ((number (judge file) ≡ 0) × (o ≡ some (planOf file)))
+  pub beside : plan.Holds (left file) sets′ ends′ rows′ reach′ paths′ spans′ aims′ numbers′
