@@ -1,0 +1,166 @@
+//! Events under the maximal plan: eight initiators, each with an entry of span 1 in every slot.
+
+use crate::sides::{Proved, Reference, Side};
+use crate::timing::{by_turns, print_row, Least, ROUNDS};
+use std::array::from_fn;
+use std::hint::black_box;
+
+/// So many boxes of a side take the same events: a time is taken over many calls, and what they touch stays in the nearest cache.
+const BOXES: usize = 8;
+const INITIATORS: usize = 8;
+/// How many requests wait for an initiator whose line is full.
+const WAITING: usize = 8;
+const READINGS: usize = 64;
+
+/// The boxes of a side.
+struct Events<S> {
+    boxes: Vec<S>,
+    /// Time-codes so far. Each of them starts one transaction of each initiator, so this is the next one's number too.
+    count: u32,
+    /// Not 0 if an event was refused or wrote another number of records.
+    wrong: u8,
+}
+
+impl<S: Side> Events<S> {
+    fn under(file: &[u8]) -> Self {
+        let mut boxes: Vec<S> = (0..BOXES).map(|_| S::new()).collect();
+        let refused = boxes.iter_mut().fold(0, |all, one| all | one.load(file));
+        Self {
+            boxes,
+            count: 0,
+            wrong: refused,
+        }
+    }
+
+    /// Fills every line.
+    fn requests(&mut self) {
+        let requests: [(u8, u8); INITIATORS * WAITING] = black_box(from_fn(|index| {
+            let (initiator, place) = (index / WAITING, index % WAITING);
+            (initiator as u8, (16 + 6 * initiator + place % 6) as u8)
+        }));
+        for one in &mut self.boxes {
+            for (initiator, target) in requests {
+                self.wrong |= one.request(initiator, target, 256);
+            }
+        }
+    }
+
+    /// The next time-code of every box; each is to write so many records.
+    fn time_code(&mut self, records: usize) {
+        let byte = black_box((self.count % 64) as u8);
+        let clock = black_box(self.count.wrapping_mul(100));
+        for one in &mut self.boxes {
+            let (number, count) = one.time_code(byte, clock);
+            self.wrong |= number | (count ^ records as u8);
+        }
+        self.count += 1;
+    }
+
+    /// A reply to every live transaction.
+    fn replies(&mut self) {
+        let number = black_box((self.count - 1) as u16);
+        for one in &mut self.boxes {
+            for initiator in 0..INITIATORS as u8 {
+                self.wrong |= one.reply(initiator, number);
+            }
+        }
+    }
+
+    /// Readings that are not overdue.
+    fn readings(&mut self) {
+        let last = (self.count - 1).wrapping_mul(100);
+        let clocks: [u32; READINGS] = black_box(from_fn(|after| last.wrapping_add(after as u32)));
+        for one in &mut self.boxes {
+            for clock in clocks {
+                self.wrong |= one.reading(clock);
+            }
+        }
+    }
+
+    /// Full lines, then as many time-codes as empty them, with something live before each: it ends eight transactions as late and
+    /// starts eight.
+    fn late_round(&mut self, times: &mut Times) {
+        times.request.take(REQUESTS, || self.requests());
+        times.time_code.take(TIME_CODES, || {
+            (0..WAITING).for_each(|_| self.time_code(2 * INITIATORS))
+        });
+        times.reading.take(ALL_READINGS, || self.readings());
+    }
+
+    /// The same with a reply to each transaction.
+    fn answered_round(&mut self, times: &mut Times) {
+        self.requests();
+        for _ in 0..WAITING {
+            self.time_code(INITIATORS);
+            times.reply.take(REPLIES, || self.replies());
+        }
+    }
+}
+
+const REQUESTS: usize = BOXES * INITIATORS * WAITING;
+const TIME_CODES: usize = BOXES * WAITING;
+const REPLIES: usize = BOXES * INITIATORS;
+const ALL_READINGS: usize = BOXES * READINGS;
+
+/// The least times of a side.
+#[derive(Default)]
+struct Times {
+    request: Least,
+    time_code: Least,
+    reply: Least,
+    reading: Least,
+}
+
+/// Times all events and prints their rows.
+pub fn print_events(maximal: &[u8]) {
+    let mut ours = Events::<Proved>::under(maximal);
+    let mut theirs = Events::<Reference>::under(maximal);
+    let (mut times, mut their_times) = (Times::default(), Times::default());
+    for _ in 0..ROUNDS {
+        ours.answered_round(&mut times);
+        theirs.answered_round(&mut their_times);
+    }
+    // Something live for the first time-code to end.
+    ours.requests();
+    theirs.requests();
+    ours.time_code(INITIATORS);
+    theirs.time_code(INITIATORS);
+    (1..WAITING).for_each(|_| ours.time_code(2 * INITIATORS));
+    (1..WAITING).for_each(|_| theirs.time_code(2 * INITIATORS));
+    for _ in 0..ROUNDS {
+        ours.late_round(&mut times);
+        theirs.late_round(&mut their_times);
+    }
+    assert_eq!((ours.wrong, theirs.wrong), (0, 0), "an event went wrong");
+    for (name, least, their_least) in [
+        (
+            "time-code, 8 endings and 8 starts",
+            &times.time_code,
+            &their_times.time_code,
+        ),
+        ("request", &times.request, &their_times.request),
+        ("reply", &times.reply, &their_times.reply),
+        ("reading", &times.reading, &their_times.reading),
+    ] {
+        print_row(name, "", "", least, their_least);
+    }
+    print_not_permitted(maximal);
+}
+
+/// A request that no entry permits, though its initiator has one in every slot: refused with 25.
+fn print_not_permitted(maximal: &[u8]) {
+    let (mut ours, mut theirs) = (Proved::new(), Reference::new());
+    let loaded = (ours.load(maximal), theirs.load(maximal));
+    assert_eq!(loaded, (0, 0), "the plan is refused");
+    let answers = (ours.request(7, 16, 256), theirs.request(7, 16, 256));
+    assert_eq!(answers, (25, 25), "the request is not refused");
+    let (least, their_least) = by_turns(
+        || {
+            black_box(black_box(&mut ours).request(7, black_box(16), 256));
+        },
+        || {
+            black_box(black_box(&mut theirs).request(7, black_box(16), 256));
+        },
+    );
+    print_row("request, refused with 25", "", "", &least, &their_least);
+}

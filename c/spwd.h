@@ -1,0 +1,360 @@
+/*
+ * spwd.h: the SpaceWire-D initiator box for C99 and C++11.
+ *
+ * One box is one spwd_box, which the caller owns. The library keeps nothing of its own, takes no heap and calls nothing but memset.
+ * Link with libspwd_c.a (c/library builds it). A box MUST BE CLEARED (spwd_clear) before any other use: memory fresh from a
+ * declaration or from malloc holds no box. A load may be the first call too, since it clears.
+ *
+ * Everything below follows document 01, "The initiator box described, with its rules"; its numbers are the constants here, and
+ * docs/CARD.md says of each what to do about it. What is proved of each spwd_c_ function is its contract in crates/spwd_c.
+ *
+ * What the caller owes, since no proof reaches it: pointers are valid for the size given; a file, a record buffer or room for writing
+ * out does not overlap the box; one call at a time on one box. A pointer may be NULL where the size beside it is 0.
+ */
+#ifndef SPWD_H
+#define SPWD_H
+
+#include <stdbool.h>
+#include <stddef.h>
+#include <stdint.h>
+
+/* ---- sizes */
+
+enum {
+    SPWD_FILE_MOST = 16384,    /* bytes of a plan file that is not refused for its length alone */
+    SPWD_WRITTEN_MOST = 13643, /* bytes of a plan written out: room that is always enough */
+    SPWD_RECORD_SIZE = 8,
+    SPWD_RECORDS_MOST = 17,
+    SPWD_RECORDS_ROOM = SPWD_RECORD_SIZE * SPWD_RECORDS_MOST, /* the least record buffer that a time-code takes */
+    SPWD_LINE_ROOM = 40, /* bytes of the buffer for a printed verdict */
+    SPWD_SLOTS = 64,
+    SPWD_INITIATORS_MOST = 8,
+    SPWD_PATHS_MOST = 128,
+    SPWD_WAITING_MOST = 8,
+    SPWD_LENGTH_MOST = 4096 /* data bytes of a request */
+};
+
+/* ---- document 01's numbers */
+
+/* Verdicts. What stands in `values` of a spwd_verdict is given beside each; what is not named is 0. */
+enum {
+    SPWD_ACCEPTED = 0,           /* devices, links, paths, entries */
+    SPWD_FILE_TOO_LONG = 1,      /* 0 */
+    SPWD_CUT_OFF = 2,            /* 2 to 11: offset of the tag of the field at fault */
+    SPWD_UNKNOWN_TAG = 3,
+    SPWD_TAG_ORDER = 4,
+    SPWD_FIELD_LENGTH = 5,
+    SPWD_OUT_OF_RANGE = 6,
+    SPWD_GIVEN_BEFORE = 7,
+    SPWD_NOT_GIVEN = 8,
+    SPWD_TOO_MANY = 9,
+    SPWD_NO_WALK = 10,
+    SPWD_NO_PATH = 11,
+    SPWD_NO_INTERVALS = 12,      /* file length */
+    SPWD_OVERRUN = 13,           /* initiator, slot */
+    SPWD_CLASH = 14              /* slot, smaller initiator, greater initiator, link */
+};
+
+/* Refusals of events and of writing out. */
+enum {
+    SPWD_TAKEN = 0,              /* not refused */
+    SPWD_NO_PLAN = 20,           /* every event, writing out */
+    SPWD_UPPER_BITS = 21,        /* time-code */
+    SPWD_NO_INITIATOR = 22,      /* request, reply */
+    SPWD_UNKNOWN_KIND = 23,      /* request */
+    SPWD_LENGTH_OVER_MOST = 24,  /* request */
+    SPWD_NOT_PERMITTED = 25,     /* request */
+    SPWD_LINE_FULL = 26,         /* request */
+    SPWD_NOTHING_LIVE = 27,      /* reply */
+    SPWD_OTHER_NUMBER = 28,      /* reply */
+    SPWD_SMALL_BUFFER = 29,      /* time-code */
+    SPWD_SMALL_ROOM = 30         /* writing out */
+};
+
+/* Kinds of records. */
+enum {
+    SPWD_RECORD_EARLY = 1,
+    SPWD_RECORD_LATE = 2,
+    SPWD_RECORD_OUT_OF_SEQUENCE = 3,
+    SPWD_RECORD_TRANSACTION_LATE = 4,
+    SPWD_RECORD_STARTED = 5,
+    SPWD_RECORD_STILL_LIVE = 6   /* does not occur with an accepted plan */
+};
+
+/* Kinds of requests, and classes of a reply's status. */
+enum { SPWD_READ = 0, SPWD_WRITE = 1 };
+enum { SPWD_SUCCESS = 0, SPWD_ERROR = 1, SPWD_RESERVED = 2 };
+
+/* The watchdog's five numbers, as they stand in `five` of a box. The caller may write others there before any call. */
+enum { SPWD_LAST_CLOCK = 0, SPWD_SEEN = 1, SPWD_REPORTED = 2, SPWD_LEAST = 3, SPWD_GREATEST = 4 };
+
+/* ---- memory that the caller lends */
+
+/* Plan memory. */
+typedef struct spwd_plan {
+    uint64_t sets[3];
+    uint8_t ends[128];
+    uint8_t rows[8];
+    uint64_t reach[8];
+    uint8_t paths[1408];
+    uint8_t spans[512];
+    uint64_t aims[512];
+    uint32_t numbers[6];
+} spwd_plan;
+
+/* One box: all memory that it needs. Only `five` is for the caller to read and write. */
+typedef struct spwd_box {
+    spwd_plan plan;
+    uint64_t run[96];
+    uint32_t five[5];
+    uint8_t last[1];
+} spwd_box;
+
+/* ---- what calls give back */
+
+typedef struct spwd_verdict {
+    uint32_t number;
+    uint32_t values[4];
+} spwd_verdict;
+
+/* SPWD_TAKEN and what the event answers, or a refusal's number; all else 0. */
+typedef struct spwd_answer {
+    uint32_t number;
+    uint32_t records;      /* a time-code: how many records it wrote */
+    uint32_t transaction;  /* a request: its transaction number */
+    uint32_t target;       /* a reply: the ended transaction's target, length, status and class of status */
+    uint32_t length;
+    uint32_t status;
+    uint32_t status_class;
+    uint32_t reading;      /* a clock reading: 1 if it reports lateness */
+} spwd_answer;
+
+/* SPWD_TAKEN and the size, or a refusal's number and 0. */
+typedef struct spwd_written {
+    uint32_t number;
+    uint32_t size;
+} spwd_written;
+
+/* One record of a time-code. Kinds 1 to 3 fill kind and value, the rest is 0. */
+typedef struct spwd_record {
+    uint8_t kind;
+    uint8_t initiator;
+    uint8_t target;
+    uint8_t value; /* of the time-code: the slot */
+    uint16_t transaction;
+    uint16_t length;
+} spwd_record;
+
+/* ---- sizes held at compile time, and a number of two bytes */
+
+#ifdef __cplusplus
+#define SPWD_HOLDS(name, fact) static_assert(fact, #name)
+#define SPWD_U16(high, low) static_cast<uint16_t>((high) << 8 | (low))
+#else
+#define SPWD_HOLDS(name, fact) typedef char spwd_holds_##name[(fact) ? 1 : -1]
+#define SPWD_U16(high, low) ((uint16_t)((high) << 8 | (low)))
+#endif
+
+SPWD_HOLDS(records_room, SPWD_RECORDS_ROOM == 136);
+SPWD_HOLDS(plan_without_gaps, sizeof(spwd_plan) == 6264);
+SPWD_HOLDS(box_without_gaps_but_at_its_end, offsetof(spwd_box, last) == 6264 + 768 + 20);
+SPWD_HOLDS(box_size, sizeof(spwd_box) == 7056);
+
+/* ---- the functions of the archive, in numbers and pointers; the ones below are easier to use */
+
+#ifdef __cplusplus
+extern "C" {
+#endif
+
+void spwd_c_clear(uint64_t sets[3], uint8_t ends[128], uint8_t rows[8], uint64_t reach[8], uint8_t paths[1408], uint8_t spans[512],
+                  uint64_t aims[512], uint32_t numbers[6], uint64_t run[96], uint8_t last[1], uint32_t five[5]);
+void spwd_c_load(const uint8_t *file, size_t size, uint64_t sets[3], uint8_t ends[128], uint8_t rows[8], uint64_t reach[8],
+                 uint8_t paths[1408], uint8_t spans[512], uint64_t aims[512], uint32_t numbers[6], uint64_t run[96], uint8_t last[1],
+                 uint32_t five[5], uint32_t verdict[5]);
+void spwd_c_time_code(const uint8_t rows[8], const uint8_t spans[512], const uint64_t aims[512], const uint32_t numbers[6],
+                      uint64_t run[96], uint8_t last[1], uint32_t five[5], uint8_t byte, uint32_t clock, uint8_t *records, size_t room,
+                      uint32_t answer[8]);
+void spwd_c_request(const uint8_t rows[8], const uint8_t spans[512], const uint64_t aims[512], const uint32_t numbers[6],
+                    uint64_t run[96], uint8_t initiator, uint8_t target, uint8_t kind, uint16_t length, uint32_t answer[8]);
+void spwd_c_reply(const uint8_t rows[8], const uint32_t numbers[6], uint64_t run[96], uint8_t initiator, uint16_t number,
+                  uint8_t status, uint32_t answer[8]);
+void spwd_c_reading(const uint32_t numbers[6], uint32_t five[5], uint32_t clock, uint32_t answer[8]);
+void spwd_c_write_out(const uint64_t sets[3], const uint8_t ends[128], const uint8_t rows[8], const uint64_t reach[8],
+                      const uint8_t paths[1408], const uint8_t spans[512], const uint64_t aims[512], const uint32_t numbers[6],
+                      uint8_t *out, size_t room, uint32_t answer[2]);
+size_t spwd_c_print(const uint32_t verdict[5], uint8_t line[40]);
+uint32_t spwd_c_is_blank(const uint64_t sets[3], const uint8_t ends[128], const uint8_t rows[8], const uint64_t reach[8],
+                         const uint8_t paths[1408], const uint8_t spans[512], const uint64_t aims[512], const uint32_t numbers[6],
+                         const uint64_t run[96], const uint8_t last[1], const uint32_t five[5]);
+uint32_t spwd_c_holds(const uint8_t *file, size_t size, const uint64_t sets[3], const uint8_t ends[128], const uint8_t rows[8],
+                      const uint64_t reach[8], const uint8_t paths[1408], const uint8_t spans[512], const uint64_t aims[512],
+                      const uint32_t numbers[6], uint64_t other_sets[3], uint8_t other_ends[128], uint8_t other_rows[8],
+                      uint64_t other_reach[8], uint8_t other_paths[1408], uint8_t other_spans[512], uint64_t other_aims[512],
+                      uint32_t other_numbers[6]);
+
+#ifdef __cplusplus
+}
+#endif
+
+/* ---- the box */
+
+static inline spwd_answer spwd_answer_of(const uint32_t numbers[8])
+{
+    spwd_answer answer;
+    answer.number = numbers[0];
+    answer.records = numbers[1];
+    answer.transaction = numbers[2];
+    answer.target = numbers[3];
+    answer.length = numbers[4];
+    answer.status = numbers[5];
+    answer.status_class = numbers[6];
+    answer.reading = numbers[7];
+    return answer;
+}
+
+/* Makes the box the one before any load, every number of it and the five, whatever memory held before.
+ * Refusals: none.
+ * Left as it was: nothing. */
+static inline void spwd_clear(spwd_box *box)
+{
+    spwd_plan *plan = &box->plan;
+    spwd_c_clear(plan->sets, plan->ends, plan->rows, plan->reach, plan->paths, plan->spans, plan->aims, plan->numbers, box->run,
+                 box->last, box->five);
+}
+
+/* Judges a plan file and, if it is accepted, puts the box under its plan: nothing waiting or live, the intervals in the five.
+ * Refusals: verdicts SPWD_FILE_TOO_LONG to SPWD_CLASH; the box is then that of a clear.
+ * Left as it was: the file. What the box held before is gone either way. */
+static inline spwd_verdict spwd_load(spwd_box *box, const uint8_t *file, size_t size)
+{
+    static const uint8_t nothing[1] = {0};
+    spwd_plan *plan = &box->plan;
+    spwd_verdict verdict;
+    uint32_t numbers[5];
+    size_t place;
+    spwd_c_load(size == 0 ? nothing : file, size, plan->sets, plan->ends, plan->rows, plan->reach, plan->paths, plan->spans,
+                plan->aims, plan->numbers, box->run, box->last, box->five, numbers);
+    verdict.number = numbers[0];
+    for (place = 0; place < 4; place++) {
+        verdict.values[place] = numbers[place + 1];
+    }
+    return verdict;
+}
+
+/* Takes a time-code: answers how many records of SPWD_RECORD_SIZE bytes it wrote to the buffer, and updates the five.
+ * Refusals: SPWD_NO_PLAN, SPWD_UPPER_BITS, SPWD_SMALL_BUFFER (room under SPWD_RECORDS_ROOM).
+ * Left as it was: the buffer beyond the records; on a refusal everything, the whole buffer and the five too. */
+static inline spwd_answer spwd_time_code(spwd_box *box, uint8_t byte, uint32_t clock, uint8_t *records, size_t room)
+{
+    const spwd_plan *plan = &box->plan;
+    uint8_t nothing[1] = {0};
+    uint32_t answer[8];
+    spwd_c_time_code(plan->rows, plan->spans, plan->aims, plan->numbers, box->run, box->last, box->five, byte, clock,
+                     room == 0 ? nothing : records, room, answer);
+    return spwd_answer_of(answer);
+}
+
+/* Puts a request (SPWD_READ or SPWD_WRITE) into its initiator's line and answers its transaction number.
+ * Refusals: SPWD_NO_PLAN, SPWD_NO_INITIATOR, SPWD_UNKNOWN_KIND, SPWD_LENGTH_OVER_MOST, SPWD_NOT_PERMITTED, SPWD_LINE_FULL.
+ * Left as it was: the five; on a refusal everything, and the number is not used up. */
+static inline spwd_answer spwd_request(spwd_box *box, uint8_t initiator, uint8_t target, uint8_t kind, uint16_t length)
+{
+    const spwd_plan *plan = &box->plan;
+    uint32_t answer[8];
+    spwd_c_request(plan->rows, plan->spans, plan->aims, plan->numbers, box->run, initiator, target, kind, length, answer);
+    return spwd_answer_of(answer);
+}
+
+/* Ends the live transaction of an initiator and answers its target and length, the status and its class.
+ * Refusals: SPWD_NO_PLAN, SPWD_NO_INITIATOR, SPWD_NOTHING_LIVE, SPWD_OTHER_NUMBER.
+ * Left as it was: lines and the five; on a refusal everything. */
+static inline spwd_answer spwd_reply(spwd_box *box, uint8_t initiator, uint16_t number, uint8_t status)
+{
+    const spwd_plan *plan = &box->plan;
+    uint32_t answer[8];
+    spwd_c_reply(plan->rows, plan->numbers, box->run, initiator, number, status, answer);
+    return spwd_answer_of(answer);
+}
+
+/* Takes a clock reading: answers 1, once, if the next time-code is overdue by it, and notes in the five that it was reported.
+ * Refusals: SPWD_NO_PLAN.
+ * Left as it was: all but the five; where it answers 0 or refuses, the five too. */
+static inline spwd_answer spwd_reading(spwd_box *box, uint32_t clock)
+{
+    uint32_t answer[8];
+    spwd_c_reading(box->plan.numbers, box->five, clock, answer);
+    return spwd_answer_of(answer);
+}
+
+/* Writes the plan out as a file, in canonical order, and answers its size (at most SPWD_WRITTEN_MOST).
+ * Refusals: SPWD_NO_PLAN, SPWD_SMALL_ROOM.
+ * Left as it was: the box; room beyond the size; on a refusal all of the room. */
+static inline spwd_written spwd_write_out(const spwd_box *box, uint8_t *out, size_t room)
+{
+    const spwd_plan *plan = &box->plan;
+    uint8_t nothing[1] = {0};
+    spwd_written written;
+    uint32_t answer[2];
+    spwd_c_write_out(plan->sets, plan->ends, plan->rows, plan->reach, plan->paths, plan->spans, plan->aims, plan->numbers,
+                     room == 0 ? nothing : out, room, answer);
+    written.number = answer[0];
+    written.size = answer[1];
+    return written;
+}
+
+/* Prints the one line of a verdict, newline at its end and no zero byte after it, and answers how many bytes it has.
+ * Refusals: none; numbers that are no verdict's are cut to their widths and printed all the same.
+ * Left as it was: the buffer beyond the line. */
+static inline size_t spwd_print(const spwd_verdict *verdict, uint8_t line[SPWD_LINE_ROOM])
+{
+    uint32_t numbers[5];
+    size_t place;
+    numbers[0] = verdict->number;
+    for (place = 0; place < 4; place++) {
+        numbers[place + 1] = verdict->values[place];
+    }
+    return spwd_c_print(numbers, line);
+}
+
+/* Says whether every number of the box and of the five is that of a clear.
+ * Refusals: none; any memory may be asked about.
+ * Left as it was: everything. */
+static inline bool spwd_is_blank(const spwd_box *box)
+{
+    const spwd_plan *plan = &box->plan;
+    return spwd_c_is_blank(plan->sets, plan->ends, plan->rows, plan->reach, plan->paths, plan->spans, plan->aims, plan->numbers,
+                           box->run, box->last, box->five) != 0;
+}
+
+/* Says whether the box holds the plan of this file, whatever the order of its fields. `other` is plan memory to read the file into.
+ * Refusals: none; a file that a load refuses is no plan, and the answer is false.
+ * Left as it was: the box. `other` need not be cleared before, and has the file's plan afterwards, or none. */
+static inline bool spwd_holds(const spwd_box *box, const uint8_t *file, size_t size, spwd_plan *other)
+{
+    static const uint8_t nothing[1] = {0};
+    const spwd_plan *plan = &box->plan;
+    return spwd_c_holds(size == 0 ? nothing : file, size, plan->sets, plan->ends, plan->rows, plan->reach, plan->paths, plan->spans,
+                        plan->aims, plan->numbers, other->sets, other->ends, other->rows, other->reach, other->paths, other->spans,
+                        other->aims, other->numbers) != 0;
+}
+
+/* Reads the record at a place of the buffer, counted from 0.
+ * Refusals: none; places from the answer's `records` on hold no record.
+ * Left as it was: the buffer. */
+static inline spwd_record spwd_record_at(const uint8_t *records, size_t place)
+{
+    const uint8_t *bytes = records + place * SPWD_RECORD_SIZE;
+    spwd_record record;
+    record.kind = bytes[0];
+    record.initiator = bytes[1];
+    record.target = bytes[2];
+    record.value = bytes[3];
+    record.transaction = SPWD_U16(bytes[4], bytes[5]);
+    record.length = SPWD_U16(bytes[6], bytes[7]);
+    return record;
+}
+
+#undef SPWD_HOLDS
+#undef SPWD_U16
+
+#endif

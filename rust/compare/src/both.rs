@@ -1,0 +1,150 @@
+//! The two boxes side by side: the same calls, and everything that they give back and leave compared, byte by byte.
+
+use crate::theirs;
+use reference::Unit;
+use spwd::{Answer, Event, Plan, Record, Spwd, Watchdog};
+use spwd::{LINE_ROOM, RECORD_SIZE, WRITTEN_MOST};
+use std::fmt::Debug;
+
+/// What lent buffers hold before a call.
+const FILLED: u8 = 0xa5;
+
+/// Something on which the two do not agree.
+#[derive(Debug)]
+pub struct Difference {
+    pub what: &'static str,
+    pub proved: String,
+    pub reference: String,
+}
+
+pub type Outcome<T> = Result<T, Difference>;
+
+fn same<T: PartialEq + Debug>(what: &'static str, proved: T, reference: T) -> Outcome<T> {
+    if proved == reference {
+        return Ok(proved);
+    }
+    Err(Difference {
+        what,
+        proved: format!("{proved:?}"),
+        reference: format!("{reference:?}"),
+    })
+}
+
+/// What the two agreed on after a call.
+#[derive(Clone, Copy, Debug, PartialEq, Eq)]
+pub struct After {
+    /// 0, or the refusal of writing out.
+    pub written: u8,
+    pub blank: bool,
+    pub holds: bool,
+}
+
+/// What is asked of the two after a call.
+pub struct Question<'a> {
+    /// Room for writing out.
+    pub room: usize,
+    /// Do they hold the plan of this file?
+    pub file: &'a [u8],
+}
+
+#[derive(Default)]
+pub struct Both {
+    proved: Spwd,
+    unit: Unit,
+    watchdog: reference::Watchdog,
+    /// Plan memory beside the box's.
+    other: Plan,
+}
+
+impl Both {
+    /// The five numbers of both.
+    pub fn watchdog(&self) -> Watchdog {
+        self.proved.watchdog()
+    }
+
+    /// Lends both these five numbers.
+    pub fn lend(&mut self, five: [u32; 5]) {
+        self.proved.set_watchdog(five.into());
+        self.watchdog = theirs::watchdog(five);
+    }
+
+    /// Loads the file into both and gives the verdict's number.
+    pub fn load(&mut self, file: &[u8]) -> Outcome<u8> {
+        let verdict = self.proved.load(file);
+        let their_verdict = self.unit.load(file, &mut self.watchdog);
+        let their_numbers = theirs::verdict(&their_verdict);
+        same("verdict", verdict.numbers(), their_numbers)?;
+        let (mut line, mut their_line) = ([FILLED; LINE_ROOM], [FILLED; LINE_ROOM]);
+        let size = verdict.print(&mut line);
+        let their_size = reference::print_verdict(&their_verdict, &mut their_line);
+        same("size of the printed line", size, their_size)?;
+        same("printed line and buffer beyond it", line, their_line)?;
+        self.same_five()?;
+        Ok(verdict.number())
+    }
+
+    pub fn clear(&mut self) -> Outcome<()> {
+        self.proved.clear();
+        self.unit.clear(&mut self.watchdog);
+        self.same_five()
+    }
+
+    /// Hands both the event and a record buffer of this size, and gives the answer and the records.
+    pub fn step(&mut self, event: Event, room: usize) -> Outcome<(Answer, Vec<Record>)> {
+        let (mut records, mut their_records) = (vec![FILLED; room], vec![FILLED; room]);
+        let answer = self.proved.step(event, &mut records);
+        let event = theirs::event(event);
+        let their_answer = self
+            .unit
+            .step(event, &mut self.watchdog, &mut their_records);
+        same("answer", answer, theirs::answer(&their_answer).into())?;
+        let records = same("records and buffer beyond them", records, their_records)?;
+        self.same_five()?;
+        let count = answer.records as u8;
+        let beyond = usize::from(count) * RECORD_SIZE;
+        let untouched = records[beyond..].iter().all(|&byte| byte == FILLED);
+        same("buffer beyond the records untouched", untouched, true)?;
+        Ok((answer, spwd::records(&records, count).collect()))
+    }
+
+    fn same_five(&self) -> Outcome<()> {
+        let five: [u32; 5] = self.proved.watchdog().into();
+        same("the five numbers", five, theirs::five(&self.watchdog))?;
+        Ok(())
+    }
+
+    /// Compares what can be asked of the two at any time.
+    pub fn after(&mut self, question: &Question) -> Outcome<After> {
+        let blank = same(
+            "is blank",
+            self.proved.is_blank(),
+            theirs::is_blank(&self.unit, &self.watchdog),
+        )?;
+        let written = same_written(self.proved.plan(), &self.unit, question.room)?;
+        let (other, holds) = theirs::holds(&self.unit, question.file);
+        let ours = self.proved.holds(question.file, &mut self.other);
+        let holds = same("holds the plan of the file", ours, holds)?;
+        same_written(&self.other, &other, WRITTEN_MOST)?;
+        Ok(After {
+            written,
+            blank,
+            holds,
+        })
+    }
+}
+
+/// The plan written out by both; the number of the answer.
+fn same_written(plan: &Plan, unit: &Unit, room: usize) -> Outcome<u8> {
+    let (mut out, mut their_out) = ([FILLED; WRITTEN_MOST], [FILLED; WRITTEN_MOST]);
+    let room = room.min(WRITTEN_MOST);
+    let answer = match plan.write_out(&mut out[..room]) {
+        Ok(size) => (0, size),
+        Err(refusal) => (refusal.number(), 0),
+    };
+    let their_answer = unit.write_out(&mut their_out[..room]);
+    let (number, size) = same("answer of writing out", answer, their_answer)?;
+    same("plan written out and room beyond it", &out[..], &their_out)?;
+    let untouched = out[size..].iter().all(|&byte| byte == FILLED);
+    same("room beyond the plan untouched", untouched, true)?;
+    Ok(number)
+}

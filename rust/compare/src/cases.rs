@@ -1,0 +1,216 @@
+//! The cases: files, histories, and a history so long that transaction numbers run round.
+
+use crate::both::{Both, Difference, Outcome, Question};
+use crate::damage::{damaged, noise};
+use crate::events::{five, Actor};
+use crate::plans;
+use crate::random::Random;
+use crate::tally::Tally;
+use spwd::{Answer, Event, READ, RECORDS_ROOM, WRITTEN_MOST};
+
+/// A case that showed a difference.
+#[derive(Debug)]
+pub struct Failure {
+    /// What was done last.
+    pub call: String,
+    /// The file that was loaded last.
+    pub file: Vec<u8>,
+    pub difference: Difference,
+}
+
+/// Two boxes on their way through calls drawn at random.
+pub struct Case<'a> {
+    both: Both,
+    random: Random,
+    tally: &'a mut Tally,
+    actor: Actor,
+    file: Vec<u8>,
+    call: String,
+}
+
+impl<'a> Case<'a> {
+    pub fn new(random: Random, tally: &'a mut Tally) -> Self {
+        Self {
+            both: Both::default(),
+            random,
+            tally,
+            actor: Actor::default(),
+            file: Vec::new(),
+            call: String::new(),
+        }
+    }
+
+    /// A file, damaged or not, then a few events, a clear, a few more.
+    pub fn file(mut self) -> Result<(), Box<Failure>> {
+        let outcome = self.file_and_some();
+        self.told(outcome)
+    }
+
+    /// An accepted plan, and so many events under it with clears and loads in the middle.
+    pub fn history(mut self, events: u64) -> Result<(), Box<Failure>> {
+        let outcome = self.some_events(events);
+        self.told(outcome)
+    }
+
+    /// One initiator with a start in each slot, until it has had all numbers and some again.
+    pub fn round(mut self) -> Result<(), Box<Failure>> {
+        let outcome = self.all_numbers();
+        self.told(outcome)
+    }
+
+    fn told(self, outcome: Outcome<()>) -> Result<(), Box<Failure>> {
+        outcome.map_err(|difference| {
+            Box::new(Failure {
+                call: self.call,
+                file: self.file,
+                difference,
+            })
+        })
+    }
+
+    fn file_and_some(&mut self) -> Outcome<()> {
+        let before = plans::accepted(&mut self.random);
+        self.load(before)?;
+        self.step()?;
+        let file = any_file(&mut self.random);
+        self.load(file)?;
+        for _ in 0..self.random.below(3) {
+            self.step()?;
+        }
+        if self.random.chance(100) {
+            self.clear()?;
+            self.step()?;
+        }
+        Ok(())
+    }
+
+    fn some_events(&mut self, events: u64) -> Outcome<()> {
+        let file = plans::accepted(&mut self.random);
+        self.load(file)?;
+        for _ in 0..events {
+            match self.random.below(1000) {
+                0 => self.clear()?,
+                1 | 2 => {
+                    let file = any_file(&mut self.random);
+                    self.load(file)?;
+                }
+                3..6 => {
+                    let file = plans::accepted(&mut self.random);
+                    self.load(file)?;
+                }
+                6..20 => self.lend(),
+                20..60 if !self.actor.has_plan() => {
+                    let file = plans::accepted(&mut self.random);
+                    self.load(file)?;
+                }
+                _ => {}
+            }
+            self.step()?;
+        }
+        Ok(())
+    }
+
+    fn all_numbers(&mut self) -> Outcome<()> {
+        let file = plans::each_slot(&mut self.random);
+        self.load(file)?;
+        let request = Event::Request {
+            initiator: 7,
+            target: 9,
+            kind: READ,
+            length: 256,
+        };
+        let mut before = 0;
+        for count in 0..65_600_u32 {
+            let number = self.take(request, 0)?.transaction;
+            self.tally.rounds += u64::from((before, number) == (65_535, 0));
+            before = number;
+            let time_code = Event::TimeCode {
+                byte: (count % 64) as u8,
+                clock: count.wrapping_mul(100),
+            };
+            self.take(time_code, RECORDS_ROOM)?;
+        }
+        Ok(())
+    }
+
+    fn load(&mut self, file: Vec<u8>) -> Outcome<()> {
+        self.call = "load".to_owned();
+        self.file = file;
+        let number = self.both.load(&self.file)?;
+        self.tally.verdict(number);
+        self.actor = match number {
+            0 => Actor::under(&self.file),
+            _ => Actor::default(),
+        };
+        self.after()
+    }
+
+    fn clear(&mut self) -> Outcome<()> {
+        self.call = "clear".to_owned();
+        self.both.clear()?;
+        self.tally.clears += 1;
+        self.actor = Actor::default();
+        self.after()
+    }
+
+    fn lend(&mut self) {
+        self.both.lend(five(&mut self.random));
+        self.tally.lent += 1;
+    }
+
+    fn step(&mut self) -> Outcome<()> {
+        let event = self.actor.event(self.both.watchdog(), &mut self.random);
+        let room = match self.random.below(20) {
+            0 => self.random.below(RECORDS_ROOM + 1),
+            _ => RECORDS_ROOM + self.random.below(30),
+        };
+        self.take(event, room)?;
+        Ok(())
+    }
+
+    fn take(&mut self, event: Event, room: usize) -> Outcome<Answer> {
+        self.call = format!("{event:?} with {room} bytes for records");
+        let (answer, records) = self.both.step(event, room)?;
+        self.tally.event(&event, &answer, &records);
+        if answer.number == 0 {
+            self.actor.learn(&event, &records);
+        }
+        self.after()?;
+        Ok(answer)
+    }
+
+    /// Everything that can be asked, of the plan of this or of another file.
+    fn after(&mut self) -> Outcome<()> {
+        let random = &mut self.random;
+        let size = self.file.len();
+        let room = match random.below(8) {
+            0 => random.below(size + 1),
+            1 => size.saturating_sub(1),
+            2 => size,
+            3 => WRITTEN_MOST,
+            _ => size + random.below(20),
+        };
+        let other = match random.below(50) {
+            0 => Some(plans::reordered(&self.file, random)),
+            1 => Some(damaged(&self.file, random)),
+            2 => Some(plans::plan(random)),
+            _ => None,
+        };
+        let file = other.as_deref().unwrap_or(&self.file);
+        let after = self.both.after(&Question { room, file })?;
+        self.tally.after(after);
+        Ok(())
+    }
+}
+
+/// A plan file, damaged or not, or noise.
+fn any_file(random: &mut Random) -> Vec<u8> {
+    if random.chance(50) {
+        return noise(random);
+    }
+    let mut file = plans::plan(random);
+    while random.chance(450) {
+        file = damaged(&file, random);
+    }
+    file
+}

@@ -1,0 +1,160 @@
+//! Events at random that make sense most of the time, given the plan and what happened so far.
+
+use crate::fields::split;
+use crate::random::Random;
+use spwd::{Event, Record, Watchdog};
+
+/// What an entry permits: initiator, target, span.
+type Permit = (u8, u8, u8);
+
+#[derive(Default)]
+pub struct Actor {
+    has_plan: bool,
+    permits: Vec<Permit>,
+    last: Option<u8>,
+    /// Live transactions: initiator and number.
+    live: Vec<(u8, u16)>,
+}
+
+impl Actor {
+    /// For a box under the plan of this file.
+    pub fn under(file: &[u8]) -> Self {
+        let mut permits = Vec::new();
+        for field in split(file).0 {
+            if let [4, _, _, initiator, _, span, targets @ ..] = &field[..] {
+                permits.extend(targets.iter().map(|&target| (*initiator, target, *span)));
+            }
+        }
+        Self {
+            has_plan: true,
+            permits,
+            ..Self::default()
+        }
+    }
+
+    pub fn has_plan(&self) -> bool {
+        self.has_plan
+    }
+
+    pub fn event(&self, five: Watchdog, random: &mut Random) -> Event {
+        let strange = random.chance(40);
+        match random.below(16) {
+            0..6 => self.time_code(five, strange, random),
+            6..12 => self.request(strange, random),
+            12..15 => self.reply(strange, random),
+            _ => Event::Reading {
+                clock: clock(five, random),
+            },
+        }
+    }
+
+    fn time_code(&self, five: Watchdog, strange: bool, random: &mut Random) -> Event {
+        let byte = match self.last {
+            _ if strange => random.byte(),
+            Some(last) if !random.chance(20) => (last + 1) % 64,
+            _ => random.below(64) as u8,
+        };
+        let clock = clock(five, random);
+        Event::TimeCode { byte, clock }
+    }
+
+    fn request(&self, strange: bool, random: &mut Random) -> Event {
+        let (mut initiator, mut target, span) = match self.permits[..] {
+            [] => (random.byte() % 64, random.byte() % 64, 1),
+            _ => random.pick(&self.permits),
+        };
+        let mut kind = random.below(2) as u8;
+        let most = 256 * u16::from(span);
+        let mut length = match random.below(8) {
+            0 => 0,
+            1 => most,
+            2 => most + 1,
+            3 => random.below(4098) as u16,
+            _ => random.below(usize::from(most) + 1) as u16,
+        };
+        if strange {
+            match random.below(4) {
+                0 => initiator = random.byte(),
+                1 => target = random.byte(),
+                2 => kind = random.byte(),
+                _ => length = random.word() as u16,
+            }
+        }
+        Event::Request {
+            initiator,
+            target,
+            kind,
+            length,
+        }
+    }
+
+    fn reply(&self, strange: bool, random: &mut Random) -> Event {
+        let (mut initiator, mut number) = match self.live[..] {
+            [] => (random.byte() % 64, 0),
+            _ => random.pick(&self.live),
+        };
+        if self.live.is_empty() && !self.permits.is_empty() {
+            initiator = random.pick(&self.permits).0;
+        }
+        if strange {
+            initiator = random.byte();
+        }
+        if random.chance(60) {
+            number = number.wrapping_add(random.pick(&[1, 2, 256, u16::MAX]));
+        }
+        let status = random.byte() >> random.below(8);
+        Event::Reply {
+            initiator,
+            number,
+            status,
+        }
+    }
+
+    /// Learns what an accepted event did.
+    pub fn learn(&mut self, event: &Event, records: &[Record]) {
+        match *event {
+            Event::TimeCode { byte, .. } => self.last = Some(byte % 64),
+            Event::Reply {
+                initiator, number, ..
+            } => self.live.retain(|&live| live != (initiator, number)),
+            _ => {}
+        }
+        for record in records {
+            let transaction = (record.initiator, record.number);
+            match record.kind {
+                Record::STARTED => self.live.push(transaction),
+                Record::TRANSACTION_LATE => self.live.retain(|&live| live != transaction),
+                _ => {}
+            }
+        }
+    }
+}
+
+/// A clock at or near a bound of the intervals after the last one, or any.
+fn clock(five: Watchdog, random: &mut Random) -> u32 {
+    let Watchdog {
+        last,
+        least,
+        greatest,
+        ..
+    } = five;
+    let middle = least.wrapping_add(greatest.wrapping_sub(least) / 2);
+    let elapsed = match random.below(10) {
+        0 => least.wrapping_sub(1),
+        1 => least,
+        2 => greatest,
+        3 => greatest.wrapping_add(1),
+        4 => random.word(),
+        _ => middle,
+    };
+    last.wrapping_add(elapsed)
+}
+
+/// Five numbers that a caller may lend.
+pub fn five(random: &mut Random) -> [u32; 5] {
+    const EDGES: [u32; 8] = [0, 1, 2, 90, 110, 0x7fff_ffff, 0x8000_0000, u32::MAX];
+    std::array::from_fn(|_| match random.chance(800) {
+        true => random.pick(&EDGES),
+        false => random.word(),
+    })
+}

@@ -1,0 +1,14 @@
+//! The proved box beside the reference, which shares no code with it: the same files and events for both, everything compared.
+
+pub mod both;
+pub mod cases;
+mod damage;
+mod events;
+mod fields;
+pub mod large;
+mod network;
+mod plans;
+pub mod random;
+mod table;
+pub mod tally;
+mod theirs;

@@ -1,0 +1,106 @@
+//! compare [SEED [FILES [EVENTS]]]: files and histories drawn from the seed, taken by the proved box and by the reference. At least
+//! so many files and events are compared. The first difference ends it: what was done, on what file, both results, and status 1.
+//! The same where a verdict, refusal or record kind was not reached. The last line is "N passed, M failed", N the cases without
+//! a difference: files, histories and one history in which transaction numbers run round.
+
+use compare::cases::{Case, Failure};
+use compare::random::Random;
+use compare::tally::Tally;
+use std::process::ExitCode;
+
+const SEED: u64 = 1;
+const FILES: u64 = 20_000;
+const EVENTS: u64 = 200_000;
+
+struct Sizes {
+    seed: u64,
+    files: u64,
+    events: u64,
+}
+
+fn arguments() -> Option<Sizes> {
+    let mut numbers = Vec::new();
+    for word in std::env::args().skip(1) {
+        numbers.push(word.parse().ok()?);
+    }
+    let number = |place: usize, usual| numbers.get(place).copied().unwrap_or(usual);
+    (numbers.len() <= 3).then(|| Sizes {
+        seed: number(0, SEED),
+        files: number(1, FILES),
+        events: number(2, EVENTS),
+    })
+}
+
+fn main() -> ExitCode {
+    let Some(sizes) = arguments() else {
+        eprintln!("usage: compare [SEED [FILES [EVENTS]]], each a number");
+        return ExitCode::from(2);
+    };
+    println!("seed {}", sizes.seed);
+    let mut tally = Tally::default();
+    let mut passed = 0;
+    let ended = run(&sizes, &mut tally, &mut passed);
+    print!("{tally}");
+    let failed = match ended {
+        Ok(()) => {
+            let missing = tally.missing();
+            missing.iter().for_each(|what| println!("FAILED: {what}"));
+            missing.len()
+        }
+        Err((case, failure)) => {
+            report(&sizes, &case, &failure);
+            1
+        }
+    };
+    println!("{passed} passed, {failed} failed");
+    match failed {
+        0 => ExitCode::SUCCESS,
+        _ => ExitCode::FAILURE,
+    }
+}
+
+/// A difference, with the name of its case.
+type Found = (String, Box<Failure>);
+
+/// Files first, then histories, then the round of all numbers.
+fn run(sizes: &Sizes, tally: &mut Tally, passed: &mut u64) -> Result<(), Found> {
+    let mut index = 0;
+    while tally.files < sizes.files {
+        let random = Random::of_case(sizes.seed, index);
+        let ended = Case::new(random, tally).file();
+        ended.map_err(|failure| (format!("file case {index}"), failure))?;
+        index += 1;
+        *passed = index;
+    }
+    while tally.events < sizes.events {
+        let mut random = Random::of_case(sizes.seed, index);
+        let events = 1 + random.below(4000) as u64;
+        let ended = Case::new(random, tally).history(events);
+        ended.map_err(|failure| (format!("history case {index}"), failure))?;
+        index += 1;
+        *passed = index;
+    }
+    let ended = Case::new(Random::of_case(sizes.seed, index), tally).round();
+    ended.map_err(|failure| (format!("round of numbers, case {index}"), failure))?;
+    *passed = index + 1;
+    Ok(())
+}
+
+fn report(sizes: &Sizes, case: &str, failure: &Failure) {
+    let Sizes {
+        seed,
+        files,
+        events,
+    } = sizes;
+    let hex: String = failure
+        .file
+        .iter()
+        .map(|byte| format!("{byte:02x}"))
+        .collect();
+    println!("FAILED: seed {seed}, {files} files, {events} events: {case}");
+    println!("  call       {}", failure.call);
+    println!("  file       {hex}");
+    println!("  differs    {}", failure.difference.what);
+    println!("  proved     {}", failure.difference.proved);
+    println!("  reference  {}", failure.difference.reference);
+}

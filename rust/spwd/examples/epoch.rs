@@ -1,0 +1,162 @@
+//! epoch [FILE]: loads a plan (FILE, or the first sample of document 01), runs the box for one epoch of 64 time-codes with a few
+//! requests, replies and clock readings, and prints what it answers: the same as `c/example.c`.
+
+use spwd::{records, Plan, Record, Spwd, READ, RECORDS_ROOM, WRITE, WRITTEN_MOST};
+use std::process::ExitCode;
+
+/// plans/sample-first.plan: nodes 1 to 4, routers 10 and 11; 1 may start to 3 and 2 to 4 in slot 0; intervals 90 to 110.
+#[rustfmt::skip]
+const FIRST_SAMPLE: &[u8] = &[
+    1, 0, 2, 1, 0, 1, 0, 2, 2, 0, 1, 0, 2, 3, 0, 1, 0, 2, 4, 0, 1, 0, 2, 10, 1, 1, 0, 2, 11, 1,
+    2, 0, 3, 0, 1, 10, 2, 0, 3, 1, 2, 11, 2, 0, 3, 2, 10, 3, 2, 0, 3, 3, 11, 4, 2, 0, 3, 4, 10, 11,
+    3, 0, 4, 1, 3, 0, 2, 3, 0, 5, 1, 4, 0, 4, 3, 3, 0, 4, 2, 4, 1, 3, 3, 0, 5, 2, 3, 1, 4, 2,
+    4, 0, 4, 1, 0, 1, 3, 4, 0, 4, 2, 0, 1, 4,
+    5, 0, 8, 0, 0, 0, 90, 0, 0, 0, 110,
+];
+
+fn main() -> ExitCode {
+    let file = match std::env::args_os().nth(1) {
+        None => FIRST_SAMPLE.to_vec(),
+        Some(name) => match std::fs::read(&name) {
+            Ok(file) => file,
+            Err(error) => {
+                eprintln!("{}: {error}", name.display());
+                return ExitCode::from(2);
+            }
+        },
+    };
+    let mut spwd = Spwd::new();
+    let verdict = spwd.load(&file);
+    print!("{}", verdict.line().as_str());
+    if verdict.is_accepted() && runs(&mut spwd) {
+        ExitCode::SUCCESS
+    } else {
+        ExitCode::FAILURE
+    }
+}
+
+/// Runs the epoch. False unless the plan comes out again as it went in and a clear leaves the box blank.
+fn runs(spwd: &mut Spwd) -> bool {
+    epoch(spwd);
+    let mut out = [0; WRITTEN_MOST];
+    let Ok(size) = spwd.write_out(&mut out) else {
+        return false;
+    };
+    println!("written out: {size} bytes");
+    if !spwd.holds(&out[..size], &mut Plan::new()) {
+        return false;
+    }
+    spwd.clear();
+    let blank = spwd.is_blank();
+    println!("cleared: {}", if blank { "blank" } else { "not blank" });
+    blank
+}
+
+/// The values 62, 63, 0, 1, .. 61: after 63 comes 0.
+fn epoch(spwd: &mut Spwd) {
+    // It runs round past its top on the way.
+    let mut clock = u32::MAX - 1000;
+    for count in 0..64 {
+        let value = (62 + count) % 64;
+        clock = clock.wrapping_add(after_the_last(value));
+        time_code(spwd, value, clock);
+        between(spwd, value, clock);
+    }
+}
+
+/// How long after the one before it the time-code of this value comes: 20 is early, 30 and 40 are late.
+fn after_the_last(value: u8) -> u32 {
+    match value {
+        20 => 89,
+        30 | 40 => 111,
+        _ => 100,
+    }
+}
+
+/// What happens between the time-code of this value and the next. The reading after 39 reports that 40 is late, so 40 does not.
+fn between(spwd: &mut Spwd, value: u8, clock: u32) {
+    match value {
+        62 => {
+            request(spwd, 1, 3, READ, 100);
+            request(spwd, 1, 3, WRITE, 256);
+            request(spwd, 1, 3, READ, 257);
+            request(spwd, 1, 4, READ, 8);
+            request(spwd, 2, 4, WRITE, 0);
+        }
+        0 => {
+            reply(spwd, 1, 7, 0);
+            reply(spwd, 1, 0, 0);
+            reply(spwd, 1, 0, 0);
+        }
+        1 => reply(spwd, 2, 0, 0),
+        39 => {
+            reading(spwd, clock.wrapping_add(110));
+            reading(spwd, clock.wrapping_add(111));
+            reading(spwd, clock.wrapping_add(111));
+        }
+        _ => {}
+    }
+}
+
+fn time_code(spwd: &mut Spwd, value: u8, clock: u32) {
+    let mut buffer = [0; RECORDS_ROOM];
+    match spwd.time_code(value, clock, &mut buffer) {
+        Err(refusal) => println!("time-code {value} at {clock}: {refusal}"),
+        Ok(0) => {}
+        Ok(count) => {
+            println!("time-code {value} at {clock}: records {count}");
+            records(&buffer, count).for_each(print_record);
+        }
+    }
+}
+
+fn print_record(record: Record) {
+    let word = match record.kind {
+        Record::EARLY => "early",
+        Record::LATE => "late",
+        Record::OUT_OF_SEQUENCE => "out of sequence",
+        Record::TRANSACTION_LATE => "transaction late",
+        Record::STARTED => "started",
+        Record::STILL_LIVE => "still live",
+        _ => "?",
+    };
+    print!("  slot {}: {word}", record.value);
+    if record.kind >= Record::TRANSACTION_LATE {
+        let Record {
+            initiator,
+            target,
+            number,
+            length,
+            ..
+        } = record;
+        print!(" {initiator} to {target}, number {number}, {length} bytes");
+    }
+    println!();
+}
+
+fn request(spwd: &mut Spwd, initiator: u8, target: u8, kind: u8, length: u16) {
+    let word = if kind == READ { "read" } else { "write" };
+    print!("request {initiator} to {target}, {word}, {length} bytes: ");
+    match spwd.request(initiator, target, kind, length) {
+        Ok(number) => println!("number {number}"),
+        Err(refusal) => println!("{refusal}"),
+    }
+}
+
+fn reply(spwd: &mut Spwd, initiator: u8, number: u16, status: u8) {
+    print!("reply to {initiator}, number {number}, status {status}: ");
+    match spwd.reply(initiator, number, status) {
+        Ok(ended) => println!(
+            "from {}, {} bytes, class {}",
+            ended.target, ended.length, ended.class
+        ),
+        Err(refusal) => println!("{refusal}"),
+    }
+}
+
+fn reading(spwd: &mut Spwd, clock: u32) {
+    match spwd.reading(clock) {
+        Ok(late) => println!("reading at {clock}: {}", u8::from(late)),
+        Err(refusal) => println!("reading at {clock}: {refusal}"),
+    }
+}

@@ -1,0 +1,58 @@
+//! The SpaceWire-D initiator box in safe Rust.
+//!
+//! One box is one [`Spwd`], with all its memory inside: no heap, no statics. It reads a plan file and judges it, takes time-codes,
+//! requests, replies and clock readings, writes records and the plan, and can be cleared. What decides is the proved library
+//! (`crates/spwd_c`, linked as `libspwd_c.a`); here its numbers get names and types, and nothing else happens.
+//!
+//! Numbers are those of document 01; `docs/CARD.md` says of each what it means and what to do.
+//!
+//! ```
+//! use spwd::{records, Record, Spwd, Verdict, READ, RECORDS_ROOM};
+//!
+//! // One link between nodes 1 and 2, and 1 may start to 2 in slot 5.
+//! let plan = [
+//!     1, 0, 2, 1, 0, 1, 0, 2, 2, 0, 2, 0, 3, 0, 1, 2, 3, 0, 3, 1, 2, 0, 4, 0, 4, 1, 5, 1, 2,
+//!     5, 0, 8, 0, 0, 0, 90, 0, 0, 0, 110,
+//! ];
+//! let mut spwd = Spwd::new();
+//! let verdict = spwd.load(&plan);
+//! assert_eq!(verdict, Verdict::Accepted { devices: 2, links: 1, paths: 1, entries: 1 });
+//! assert_eq!(spwd.request(1, 2, READ, 100), Ok(0));
+//!
+//! let mut buffer = [0; RECORDS_ROOM];
+//! let count = spwd.time_code(5, 1_000, &mut buffer).unwrap();
+//! let started = records(&buffer, count).next().unwrap();
+//! assert_eq!((started.kind, started.target, started.length), (Record::STARTED, 2, 100));
+//! ```
+#![no_std]
+
+mod event;
+mod plan;
+#[allow(unsafe_code)]
+mod raw;
+mod record;
+mod refusal;
+mod spwd;
+mod verdict;
+mod watchdog;
+
+pub use event::{Answer, Ended, Event, READ, WRITE};
+pub use plan::Plan;
+pub use record::{records, Record, Records};
+pub use refusal::Refusal;
+pub use spwd::Spwd;
+pub use verdict::{Line, Verdict};
+pub use watchdog::Watchdog;
+
+/// Bytes of the longest plan file that is not refused for its length alone.
+pub const FILE_MOST: usize = 16_384;
+/// Bytes of the longest plan written out: room that is always enough.
+pub const WRITTEN_MOST: usize = 13_643;
+/// Bytes of a record.
+pub const RECORD_SIZE: usize = 8;
+/// How many records a time-code writes at most.
+pub const RECORDS_MOST: usize = 17;
+/// The least record buffer that a time-code takes.
+pub const RECORDS_ROOM: usize = RECORD_SIZE * RECORDS_MOST;
+/// Bytes of the buffer for a printed verdict.
+pub const LINE_ROOM: usize = 40;

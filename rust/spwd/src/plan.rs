@@ -1,0 +1,52 @@
+//! Plan memory.
+
+use crate::raw;
+use crate::refusal::{taken, Refusal};
+
+/// A plan as the box keeps it, or none. Plans that differ only in the order of their files are equal.
+///
+/// It stands in every [`Spwd`](crate::Spwd); one beside the box is room for [`Spwd::holds`](crate::Spwd::holds).
+#[derive(Clone, Debug, PartialEq, Eq)]
+pub struct Plan {
+    pub(crate) sets: [u64; 3],
+    pub(crate) ends: [u8; 128],
+    pub(crate) rows: [u8; 8],
+    pub(crate) reach: [u64; 8],
+    pub(crate) paths: [u8; 1408],
+    pub(crate) spans: [u8; 512],
+    pub(crate) aims: [u64; 512],
+    pub(crate) numbers: [u32; 6],
+}
+
+impl Plan {
+    /// No plan.
+    pub const fn new() -> Self {
+        Self {
+            sets: [0; 3],
+            ends: [0; 128],
+            rows: [0; 8],
+            reach: [0; 8],
+            paths: [0; 1408],
+            spans: [0; 512],
+            aims: [0; 512],
+            numbers: [0; 6],
+        }
+    }
+
+    /// Writes the plan out as a file, in canonical order, and gives its size, at most [`WRITTEN_MOST`](crate::WRITTEN_MOST).
+    /// Room beyond it keeps its bytes; on a refusal all of it does.
+    ///
+    /// # Errors
+    /// [`Refusal::NO_PLAN`], [`Refusal::SMALL_ROOM`].
+    pub fn write_out(&self, out: &mut [u8]) -> Result<usize, Refusal> {
+        let [number, size] = raw::write_out(self, out);
+        taken(number)?;
+        Ok(size as usize)
+    }
+}
+
+impl Default for Plan {
+    fn default() -> Self {
+        Self::new()
+    }
+}

@@ -1,0 +1,361 @@
+//! The functions of the archive, and all unsafe code: each call hands on references and slices as the pointers that C takes.
+//!
+//! Why that is safe: the functions need no precondition (none has a `requires`) and are proved to stay within the arrays and slices
+//! that they are lent; they keep no pointer, and references of Rust are valid, aligned, not null and, where one is `&mut`, apart from
+//! each other. A slice crosses as its pointer and its length; an empty one has a pointer that is not null.
+
+use crate::plan::Plan;
+use crate::LINE_ROOM;
+
+type Sets = [u64; 3];
+type Ends = [u8; 128];
+type Rows = [u8; 8];
+type Reach = [u64; 8];
+type Paths = [u8; 1408];
+type Spans = [u8; 512];
+type Aims = [u64; 512];
+type Numbers = [u32; 6];
+
+/// Rows of the initiators: numbers, lines and live transactions.
+pub(crate) type Run = [u64; 96];
+/// The last accepted time-code.
+pub(crate) type Last = [u8; 1];
+/// The watchdog's numbers: last clock, seen, reported, least, greatest.
+pub(crate) type Five = [u32; 5];
+
+extern "C" {
+    fn spwd_c_clear(
+        sets: &mut Sets,
+        ends: &mut Ends,
+        rows: &mut Rows,
+        reach: &mut Reach,
+        paths: &mut Paths,
+        spans: &mut Spans,
+        aims: &mut Aims,
+        numbers: &mut Numbers,
+        run: &mut Run,
+        last: &mut Last,
+        five: &mut Five,
+    );
+    fn spwd_c_load(
+        file: *const u8,
+        size: usize,
+        sets: &mut Sets,
+        ends: &mut Ends,
+        rows: &mut Rows,
+        reach: &mut Reach,
+        paths: &mut Paths,
+        spans: &mut Spans,
+        aims: &mut Aims,
+        numbers: &mut Numbers,
+        run: &mut Run,
+        last: &mut Last,
+        five: &mut Five,
+        verdict: &mut [u32; 5],
+    );
+    fn spwd_c_time_code(
+        rows: &Rows,
+        spans: &Spans,
+        aims: &Aims,
+        numbers: &Numbers,
+        run: &mut Run,
+        last: &mut Last,
+        five: &mut Five,
+        byte: u8,
+        clock: u32,
+        records: *mut u8,
+        room: usize,
+        answer: &mut [u32; 8],
+    );
+    fn spwd_c_request(
+        rows: &Rows,
+        spans: &Spans,
+        aims: &Aims,
+        numbers: &Numbers,
+        run: &mut Run,
+        initiator: u8,
+        target: u8,
+        kind: u8,
+        length: u16,
+        answer: &mut [u32; 8],
+    );
+    fn spwd_c_reply(
+        rows: &Rows,
+        numbers: &Numbers,
+        run: &mut Run,
+        initiator: u8,
+        number: u16,
+        status: u8,
+        answer: &mut [u32; 8],
+    );
+    fn spwd_c_reading(numbers: &Numbers, five: &mut Five, clock: u32, answer: &mut [u32; 8]);
+    fn spwd_c_write_out(
+        sets: &Sets,
+        ends: &Ends,
+        rows: &Rows,
+        reach: &Reach,
+        paths: &Paths,
+        spans: &Spans,
+        aims: &Aims,
+        numbers: &Numbers,
+        out: *mut u8,
+        room: usize,
+        answer: &mut [u32; 2],
+    );
+    fn spwd_c_print(verdict: &[u32; 5], line: &mut [u8; LINE_ROOM]) -> usize;
+    fn spwd_c_is_blank(
+        sets: &Sets,
+        ends: &Ends,
+        rows: &Rows,
+        reach: &Reach,
+        paths: &Paths,
+        spans: &Spans,
+        aims: &Aims,
+        numbers: &Numbers,
+        run: &Run,
+        last: &Last,
+        five: &Five,
+    ) -> u32;
+    fn spwd_c_holds(
+        file: *const u8,
+        size: usize,
+        sets: &Sets,
+        ends: &Ends,
+        rows: &Rows,
+        reach: &Reach,
+        paths: &Paths,
+        spans: &Spans,
+        aims: &Aims,
+        numbers: &Numbers,
+        other_sets: &mut Sets,
+        other_ends: &mut Ends,
+        other_rows: &mut Rows,
+        other_reach: &mut Reach,
+        other_paths: &mut Paths,
+        other_spans: &mut Spans,
+        other_aims: &mut Aims,
+        other_numbers: &mut Numbers,
+    ) -> u32;
+}
+
+#[inline]
+pub(crate) fn clear(plan: &mut Plan, run: &mut Run, last: &mut Last, five: &mut Five) {
+    // SAFETY: references alone, each of the size that is declared.
+    unsafe {
+        spwd_c_clear(
+            &mut plan.sets,
+            &mut plan.ends,
+            &mut plan.rows,
+            &mut plan.reach,
+            &mut plan.paths,
+            &mut plan.spans,
+            &mut plan.aims,
+            &mut plan.numbers,
+            run,
+            last,
+            five,
+        )
+    }
+}
+
+/// The verdict's number, then its place or counts.
+#[inline]
+pub(crate) fn load(
+    file: &[u8],
+    plan: &mut Plan,
+    run: &mut Run,
+    last: &mut Last,
+    five: &mut Five,
+) -> [u32; 5] {
+    let mut verdict = [0; 5];
+    // SAFETY: pointer and length are those of one slice, which is only read; the rest are references.
+    unsafe {
+        spwd_c_load(
+            file.as_ptr(),
+            file.len(),
+            &mut plan.sets,
+            &mut plan.ends,
+            &mut plan.rows,
+            &mut plan.reach,
+            &mut plan.paths,
+            &mut plan.spans,
+            &mut plan.aims,
+            &mut plan.numbers,
+            run,
+            last,
+            five,
+            &mut verdict,
+        )
+    }
+    verdict
+}
+
+#[inline]
+pub(crate) fn time_code(
+    plan: &Plan,
+    run: &mut Run,
+    last: &mut Last,
+    five: &mut Five,
+    byte: u8,
+    clock: u32,
+    records: &mut [u8],
+) -> [u32; 8] {
+    let mut answer = [0; 8];
+    // SAFETY: pointer and length are those of one slice that is lent to be written; the rest are numbers and references.
+    unsafe {
+        spwd_c_time_code(
+            &plan.rows,
+            &plan.spans,
+            &plan.aims,
+            &plan.numbers,
+            run,
+            last,
+            five,
+            byte,
+            clock,
+            records.as_mut_ptr(),
+            records.len(),
+            &mut answer,
+        )
+    }
+    answer
+}
+
+#[inline]
+pub(crate) fn request(
+    plan: &Plan,
+    run: &mut Run,
+    initiator: u8,
+    target: u8,
+    kind: u8,
+    length: u16,
+) -> [u32; 8] {
+    let mut answer = [0; 8];
+    // SAFETY: numbers, and references of the sizes that are declared.
+    unsafe {
+        spwd_c_request(
+            &plan.rows,
+            &plan.spans,
+            &plan.aims,
+            &plan.numbers,
+            run,
+            initiator,
+            target,
+            kind,
+            length,
+            &mut answer,
+        )
+    }
+    answer
+}
+
+#[inline]
+pub(crate) fn reply(
+    plan: &Plan,
+    run: &mut Run,
+    initiator: u8,
+    number: u16,
+    status: u8,
+) -> [u32; 8] {
+    let mut answer = [0; 8];
+    // SAFETY: numbers, and references of the sizes that are declared.
+    unsafe {
+        spwd_c_reply(
+            &plan.rows,
+            &plan.numbers,
+            run,
+            initiator,
+            number,
+            status,
+            &mut answer,
+        )
+    }
+    answer
+}
+
+#[inline]
+pub(crate) fn reading(plan: &Plan, five: &mut Five, clock: u32) -> [u32; 8] {
+    let mut answer = [0; 8];
+    // SAFETY: numbers, and references of the sizes that are declared.
+    unsafe { spwd_c_reading(&plan.numbers, five, clock, &mut answer) }
+    answer
+}
+
+/// Number and size.
+#[inline]
+pub(crate) fn write_out(plan: &Plan, out: &mut [u8]) -> [u32; 2] {
+    let mut answer = [0; 2];
+    // SAFETY: pointer and length are those of one slice that is lent to be written; the rest are references.
+    unsafe {
+        spwd_c_write_out(
+            &plan.sets,
+            &plan.ends,
+            &plan.rows,
+            &plan.reach,
+            &plan.paths,
+            &plan.spans,
+            &plan.aims,
+            &plan.numbers,
+            out.as_mut_ptr(),
+            out.len(),
+            &mut answer,
+        )
+    }
+    answer
+}
+
+/// How many bytes the line has.
+#[inline]
+pub(crate) fn print(verdict: &[u32; 5], line: &mut [u8; LINE_ROOM]) -> usize {
+    // SAFETY: references alone, each of the size that is declared.
+    unsafe { spwd_c_print(verdict, line) }
+}
+
+#[inline]
+pub(crate) fn is_blank(plan: &Plan, run: &Run, last: &Last, five: &Five) -> bool {
+    // SAFETY: references alone, each of the size that is declared.
+    let blank = unsafe {
+        spwd_c_is_blank(
+            &plan.sets,
+            &plan.ends,
+            &plan.rows,
+            &plan.reach,
+            &plan.paths,
+            &plan.spans,
+            &plan.aims,
+            &plan.numbers,
+            run,
+            last,
+            five,
+        )
+    };
+    blank != 0
+}
+
+#[inline]
+pub(crate) fn holds(file: &[u8], plan: &Plan, other: &mut Plan) -> bool {
+    // SAFETY: pointer and length are those of one slice, which is only read; the rest are references.
+    let holds = unsafe {
+        spwd_c_holds(
+            file.as_ptr(),
+            file.len(),
+            &plan.sets,
+            &plan.ends,
+            &plan.rows,
+            &plan.reach,
+            &plan.paths,
+            &plan.spans,
+            &plan.aims,
+            &plan.numbers,
+            &mut other.sets,
+            &mut other.ends,
+            &mut other.rows,
+            &mut other.reach,
+            &mut other.paths,
+            &mut other.spans,
+            &mut other.aims,
+            &mut other.numbers,
+        )
+    };
+    holds != 0
+}

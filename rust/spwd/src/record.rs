@@ -1,0 +1,91 @@
+//! The records of a time-code.
+
+use crate::RECORD_SIZE;
+use core::slice;
+
+/// One record. Kinds 1 to 3 fill kind and value, the rest is 0.
+#[derive(Clone, Copy, Debug, PartialEq, Eq)]
+pub struct Record {
+    /// One of the constants here.
+    pub kind: u8,
+    /// Whose transaction.
+    pub initiator: u8,
+    /// To whom.
+    pub target: u8,
+    /// The time-code's value: the slot.
+    pub value: u8,
+    /// The transaction's number.
+    pub number: u16,
+    /// Its data bytes.
+    pub length: u16,
+}
+
+impl Record {
+    /// The time-code came early.
+    pub const EARLY: u8 = 1;
+    /// The time-code came late.
+    pub const LATE: u8 = 2;
+    /// The time-code is not the next one; nothing starts.
+    pub const OUT_OF_SEQUENCE: u8 = 3;
+    /// No reply came within the span; the transaction is over.
+    pub const TRANSACTION_LATE: u8 = 4;
+    /// The transaction started.
+    pub const STARTED: u8 = 5;
+    /// An earlier transaction stands in the way of a start; with an accepted plan this does not occur.
+    pub const STILL_LIVE: u8 = 6;
+
+    /// The record of these bytes.
+    pub const fn from_bytes(bytes: [u8; RECORD_SIZE]) -> Self {
+        let [kind, initiator, target, value, number_high, number_low, length_high, length_low] =
+            bytes;
+        Self {
+            kind,
+            initiator,
+            target,
+            value,
+            number: u16::from_be_bytes([number_high, number_low]),
+            length: u16::from_be_bytes([length_high, length_low]),
+        }
+    }
+
+    /// The bytes of this record.
+    pub const fn to_bytes(self) -> [u8; RECORD_SIZE] {
+        let [number_high, number_low] = self.number.to_be_bytes();
+        let [length_high, length_low] = self.length.to_be_bytes();
+        [
+            self.kind,
+            self.initiator,
+            self.target,
+            self.value,
+            number_high,
+            number_low,
+            length_high,
+            length_low,
+        ]
+    }
+}
+
+/// The first `count` records of a buffer, as [`Spwd::time_code`](crate::Spwd::time_code) left it; fewer if it holds fewer.
+pub fn records(buffer: &[u8], count: u8) -> Records<'_> {
+    let (records, _) = buffer.as_chunks();
+    let count = records.len().min(count.into());
+    Records(records[..count].iter())
+}
+
+/// Goes through the records of a buffer; [`records`] gives it.
+#[derive(Clone, Debug)]
+pub struct Records<'a>(slice::Iter<'a, [u8; RECORD_SIZE]>);
+
+impl Iterator for Records<'_> {
+    type Item = Record;
+
+    fn next(&mut self) -> Option<Record> {
+        self.0.next().copied().map(Record::from_bytes)
+    }
+
+    fn size_hint(&self) -> (usize, Option<usize>) {
+        self.0.size_hint()
+    }
+}
+
+impl ExactSizeIterator for Records<'_> {}
