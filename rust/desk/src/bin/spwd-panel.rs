@@ -1,0 +1,89 @@
+//! The script that `replay` reads, played on the box: what happens, in words.
+#![forbid(unsafe_code)]
+
+use desk::arguments::{asked, Asked};
+use desk::panel::Panel;
+use desk::script::LINE;
+use desk::streams::{fail, put, read_line, Input, Status};
+use std::io::{self, BufReader, ErrorKind, Write};
+use std::process::ExitCode;
+
+const NAME: &str = "spwd-panel";
+
+const HELP: &str = "\
+spwd-panel [--card] [FILE]   plays a script on the box and says in words what happens
+spwd-panel --help            this
+
+Without FILE, or with -, standard input is read. --card adds the row of the card to every verdict and
+refusal, and to every record that asks for something.
+
+One command a line, words separated by one space, numbers decimal:
+    load HEX                                     a plan file, in lowercase hex; - for the empty file
+    clear
+    tc BYTE CLOCK BUF                            a time-code, with a record buffer of BUF bytes (0 to 4,096)
+    req INITIATOR TARGET KIND LENGTH             a request; kind 0 read, 1 write
+    rep INITIATOR NUMBER STATUS                  a reply
+    clk CLOCK                                    a clock reading
+    out ROOM                                     the plan written out into ROOM bytes (0 to 32,768)
+    wd                                           the watchdog's five numbers
+    setwd LAST SEEN REPORTED LEAST GREATEST      lends other five
+An empty line and one that begins with # are skipped. A line that is none of these changes nothing.
+
+Status: 0 every line was a command or skipped, 1 some were not, 3 wrong arguments, or a file that cannot be
+read. Refusals are answers of the box and no failure, nor is a reader that closes the pipe early.
+";
+
+/// Output that is gathered before it is written, while more input is at hand.
+const CHUNK: usize = 1 << 16;
+
+fn main() -> ExitCode {
+    let status = match asked(std::env::args_os().skip(1), &["--card"]) {
+        Ok(Asked::Help) => put(HELP.as_bytes()).map(|()| Status::Done),
+        Ok(Asked::Run { options, file }) => play(!options.is_empty(), &Input::of(file)),
+        Err(wrong) => Err(format!("{wrong}; see {NAME} --help")),
+    };
+    status.unwrap_or_else(|what| fail(NAME, &what)).into()
+}
+
+fn play(card: bool, script: &Input) -> Result<Status, String> {
+    let mut panel = Panel::new(card);
+    let mut input = BufReader::with_capacity(CHUNK, script.open()?);
+    let (mut line, mut said) = (Vec::new(), String::new());
+    loop {
+        let more = read_line(&mut input, &mut line, LINE);
+        if let Ok(true) = more {
+            panel.play(&line).iter().for_each(|happened| {
+                said += happened;
+                said.push('\n');
+            });
+        }
+        // Whoever waits for an answer before the next command gets it.
+        let now = input.buffer().is_empty() || said.len() > CHUNK || !matches!(more, Ok(true));
+        if now && !written(&mut said)? {
+            break;
+        }
+        if !more.map_err(|error| script.failed(&error))? {
+            break;
+        }
+    }
+    let wrong = panel.wrong() > 0;
+    Ok(if wrong {
+        Status::Complaints
+    } else {
+        Status::Done
+    })
+}
+
+/// Writes what was said. False if the reader has closed the pipe.
+fn written(said: &mut String) -> Result<bool, String> {
+    let mut output = io::stdout().lock();
+    let result = output
+        .write_all(said.as_bytes())
+        .and_then(|()| output.flush());
+    said.clear();
+    match result {
+        Ok(()) => Ok(true),
+        Err(error) if error.kind() == ErrorKind::BrokenPipe => Ok(false),
+        Err(error) => Err(format!("standard output: {error}")),
+    }
+}

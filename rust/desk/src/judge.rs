@@ -1,0 +1,58 @@
+//! The verdict on a file: the proved box's, and how it is said.
+
+use crate::words;
+use spwd::{Spwd, Verdict, WRITTEN_MOST};
+
+/// A verdict, and the plan as the box holds it then: nothing if it was refused.
+pub struct Judged {
+    pub verdict: Verdict,
+    pub held: Vec<u8>,
+}
+
+/// Loads a file into a box of its own.
+pub fn judge(file: &[u8]) -> Judged {
+    let mut desk = Spwd::new();
+    let verdict = desk.load(file);
+    let mut held = vec![0; WRITTEN_MOST];
+    let size = desk.write_out(&mut held).unwrap_or(0);
+    held.truncate(size);
+    Judged { verdict, held }
+}
+
+/// What follows a verdict's number, in words; nothing where it says nothing.
+pub fn place(verdict: &Verdict) -> Option<String> {
+    match verdict {
+        Verdict::Accepted {
+            devices,
+            links,
+            paths,
+            entries,
+        } => Some(format!(
+            "devices {devices}, links {links}, paths {paths}, entries {entries}"
+        )),
+        Verdict::Faulty { number: 1, .. } => None,
+        Verdict::Faulty { number: 12, place } => Some(format!("file length {place}")),
+        Verdict::Faulty { place, .. } => Some(format!("offset {place}")),
+        Verdict::Overrun { initiator, slot } => Some(format!("initiator {initiator}, slot {slot}")),
+        Verdict::Clash {
+            slot,
+            smaller,
+            greater,
+            link,
+        } => Some(format!(
+            "slot {slot}, initiators {smaller} and {greater}, link {link}"
+        )),
+    }
+}
+
+/// The verdict as the card says it, number first.
+pub fn in_words(verdict: &Verdict) -> Vec<String> {
+    let row = words::verdict(verdict.number());
+    let mut lines = vec![
+        verdict.to_string(),
+        format!("{}: {}", row.number, row.means),
+    ];
+    lines.extend(place(verdict).map(|place| format!("    {place}")));
+    lines.push(format!("    to do: {}", row.to_do));
+    lines
+}

@@ -1,0 +1,23 @@
+//! What the desk tools `spwd-compile`, `spwd-show` and `spwd-panel` share.
+//!
+//! What decides is the proved box behind the crate `spwd`: every verdict and every answer is its own. What is read here of a plan's
+//! bytes is only put into words.
+#![forbid(unsafe_code)]
+
+pub mod arguments;
+pub mod clash;
+pub mod fault;
+pub mod fields;
+pub mod form;
+pub mod grid;
+pub mod judge;
+pub mod layout;
+pub mod network;
+pub mod page;
+pub mod panel;
+pub mod plan;
+pub mod script;
+pub mod source;
+pub mod streams;
+pub mod text;
+pub mod words;

@@ -1,0 +1,66 @@
+//! An accepted plan's network: devices, links, paths, intervals.
+
+use crate::layout::{wrapped, WIDTH};
+use crate::plan::Plan;
+
+pub fn network(plan: &Plan) -> Vec<String> {
+    let mut lines = devices(plan);
+    lines.extend(links(plan));
+    lines.extend(paths(plan));
+    if let Some(timing) = plan.timing {
+        let (least, greatest) = (timing.least, timing.greatest);
+        let early = if least == 0 { " (never early)" } else { "" };
+        lines.push(format!(
+            "time-code interval: least {least}{early}, greatest {greatest}"
+        ));
+    }
+    lines
+}
+
+fn devices(plan: &Plan) -> Vec<String> {
+    let of_kind = |kind| -> Vec<String> {
+        let devices = plan.devices.iter().filter(|device| device.kind == kind);
+        let numbers = devices.map(|device| device.number.to_string());
+        numbers.collect()
+    };
+    let mut lines = vec!["devices".to_string()];
+    for (kind, head) in [(0, "  nodes:  "), (1, "  routers:")] {
+        let numbers = of_kind(kind);
+        if numbers.is_empty() {
+            lines.push(format!("{head} none"));
+        } else {
+            lines.extend(wrapped(head, &numbers));
+        }
+    }
+    lines
+}
+
+fn links(plan: &Plan) -> Vec<String> {
+    const COLUMN: usize = 13;
+    if plan.links.is_empty() {
+        return vec!["links: none".to_string()];
+    }
+    let mut lines = vec!["links".to_string()];
+    for row in plan.links.chunks((WIDTH - 2) / COLUMN) {
+        let mut line = " ".to_string();
+        for link in row {
+            let ends = format!("{}: {}-{}", link.number, link.ends[0], link.ends[1]);
+            line += &format!(" {ends:<0$}", COLUMN - 1);
+        }
+        lines.push(line.trim_end().to_string());
+    }
+    lines
+}
+
+fn paths(plan: &Plan) -> Vec<String> {
+    if plan.paths.is_empty() {
+        return vec!["paths: none".to_string()];
+    }
+    let mut lines = vec!["paths".to_string()];
+    for path in &plan.paths {
+        let (initiator, target) = (path.initiator, path.target);
+        let walk = plan.drawn(path, None);
+        lines.push(format!("  {initiator} to {target}: {walk}"));
+    }
+    lines
+}

@@ -1,0 +1,196 @@
+//! A script played on the box, and what happens in words.
+
+use crate::judge;
+use crate::layout::{printable, shortened};
+use crate::script::{line_of, Command, Line};
+use crate::words::{self, Row};
+use spwd::{records, Record, Spwd, Watchdog};
+
+/// A box and the line that its panel shows next.
+pub struct Panel {
+    desk: Spwd,
+    /// Whether the card's row follows what asks for something.
+    card: bool,
+    line: u64,
+    wrong: u64,
+}
+
+impl Panel {
+    /// The box is as after a clear.
+    pub fn new(card: bool) -> Self {
+        Self {
+            desk: Spwd::new(),
+            card,
+            line: 0,
+            wrong: 0,
+        }
+    }
+
+    /// How many lines were no command.
+    pub fn wrong(&self) -> u64 {
+        self.wrong
+    }
+
+    /// What the next line of the script makes happen; nothing for a line that is skipped.
+    pub fn play(&mut self, line: &[u8]) -> Vec<String> {
+        self.line += 1;
+        match line_of(line) {
+            Line::Skip => Vec::new(),
+            Line::Command(command) => self.command(command),
+            Line::NoCommand => {
+                self.wrong += 1;
+                let text = shortened(&printable(line), 60);
+                vec![format!("line {}: not a command: {text}", self.line)]
+            }
+        }
+    }
+
+    fn command(&mut self, command: Command) -> Vec<String> {
+        match command {
+            Command::Load(file) => self.load(&file),
+            Command::Clear => {
+                self.desk.clear();
+                vec!["clear: there is no plan in the box".to_string()]
+            }
+            Command::TimeCode { byte, clock, room } => self.time_code(byte, clock, room),
+            Command::Request {
+                initiator,
+                target,
+                kind,
+                length,
+            } => self.request(initiator, target, kind, length),
+            Command::Reply {
+                initiator,
+                number,
+                status,
+            } => self.reply(initiator, number, status),
+            Command::Reading { clock } => self.reading(clock),
+            Command::Out { room } => self.write_out(room),
+            Command::Watchdog => vec![five("watchdog", &self.desk.watchdog())],
+            Command::SetWatchdog([last, seen, reported, least, greatest]) => {
+                self.desk.set_watchdog(Watchdog {
+                    last,
+                    seen,
+                    reported,
+                    least,
+                    greatest,
+                });
+                vec![five("watchdog set", &self.desk.watchdog())]
+            }
+        }
+    }
+
+    fn load(&mut self, file: &[u8]) -> Vec<String> {
+        let verdict = self.desk.load(file);
+        let row = words::verdict(verdict.number());
+        let place = judge::place(&verdict).map_or(String::new(), |place| format!(" ({place})"));
+        let none = if verdict.is_accepted() {
+            ""
+        } else {
+            "; there is no plan in the box"
+        };
+        let mut lines = vec![format!("load: {verdict}: {}{place}{none}", row.means)];
+        lines.extend(self.to_do(&row));
+        lines
+    }
+
+    fn time_code(&mut self, byte: u8, clock: u32, room: usize) -> Vec<String> {
+        let mut buffer = vec![0; room];
+        let count = match self.desk.time_code(byte, clock, &mut buffer) {
+            Err(refusal) => return self.refused(&format!("time-code {byte}"), refusal.number()),
+            Ok(count) => count,
+        };
+        let slot = byte % 64;
+        if count == 0 {
+            return vec![format!("slot {slot}: nothing to report")];
+        }
+        let mut lines = Vec::new();
+        for record in records(&buffer, count) {
+            lines.push(format!(
+                "slot {}: {}",
+                record.value,
+                words::record_on_panel(&record)
+            ));
+            if record.kind != Record::STARTED {
+                lines.extend(self.kind(record.kind));
+            }
+        }
+        lines
+    }
+
+    fn request(&mut self, initiator: u8, target: u8, kind: u8, length: u16) -> Vec<String> {
+        let what = format!("{}, {}", words::request_kind(kind), words::bytes(length));
+        match self.desk.request(initiator, target, kind, length) {
+            Ok(number) => vec![format!(
+                "request: initiator {initiator} number {number} to target {target}, {what}: waiting"
+            )],
+            Err(refusal) => self.refused(
+                &format!("request: initiator {initiator} to target {target}, {what}"),
+                refusal.number(),
+            ),
+        }
+    }
+
+    fn reply(&mut self, initiator: u8, number: u16, status: u8) -> Vec<String> {
+        match self.desk.reply(initiator, number, status) {
+            Ok(ended) => {
+                let transaction = words::transaction(number, ended.target, ended.length);
+                let (status, class) = (ended.status, words::class(ended.class));
+                vec![format!(
+                    "reply: initiator {initiator} {transaction}: ended, status {status} ({class})"
+                )]
+            }
+            Err(refusal) => self.refused(
+                &format!("reply: initiator {initiator} number {number}"),
+                refusal.number(),
+            ),
+        }
+    }
+
+    fn reading(&mut self, clock: u32) -> Vec<String> {
+        match self.desk.reading(clock) {
+            Ok(true) => vec![format!("clock {clock}: the next time-code is late")],
+            Ok(false) => vec![format!("clock {clock}: nothing to report")],
+            Err(refusal) => self.refused(&format!("clock {clock}"), refusal.number()),
+        }
+    }
+
+    fn write_out(&mut self, room: usize) -> Vec<String> {
+        match self.desk.write_out(&mut vec![0; room]) {
+            Ok(size) => vec![format!("the plan written out: {size} bytes")],
+            Err(refusal) => self.refused("writing out", refusal.number()),
+        }
+    }
+
+    fn refused(&self, what: &str, number: u8) -> Vec<String> {
+        let row = words::refusal(number);
+        let mut lines = vec![format!("{what}: refused {number}: {}", row.means)];
+        lines.extend(self.to_do(&row));
+        lines
+    }
+
+    /// What to do, if the card was asked for.
+    fn to_do(&self, row: &Row) -> Option<String> {
+        self.card.then(|| format!("    to do: {}", row.to_do))
+    }
+
+    /// What a record's kind says, if the card was asked for.
+    fn kind(&self, kind: u8) -> Vec<String> {
+        let row = words::record(kind);
+        let says = self.card.then(|| format!("    kind {kind}: {}", row.means));
+        says.into_iter().chain(self.to_do(&row)).collect()
+    }
+}
+
+/// The five numbers; of seen and reported 0 is no and everything else is yes.
+fn five(name: &str, watchdog: &Watchdog) -> String {
+    let yes = |number: u32| if number == 0 { "no" } else { "yes" };
+    let (seen, reported) = (yes(watchdog.seen), yes(watchdog.reported));
+    let Watchdog {
+        last,
+        least,
+        greatest,
+        ..
+    } = watchdog;
+    format!("{name}: last clock {last}, seen {seen}, reported {reported}, least {least}, greatest {greatest}")
+}

@@ -1,0 +1,128 @@
+//! The plan that the fields of a file give, to look things up in. Whether it may be loaded is for the box to say.
+
+use crate::fields::{fields, Device, Entry, Field, Item, Link, Path, Timing};
+
+#[derive(Debug, Default)]
+pub struct Plan<'a> {
+    pub devices: Vec<Device>,
+    pub links: Vec<Link>,
+    pub paths: Vec<Path<'a>>,
+    pub entries: Vec<Entry<'a>>,
+    pub timing: Option<Timing>,
+}
+
+impl<'a> Plan<'a> {
+    /// All items of a file.
+    pub fn of(file: &'a [u8]) -> Self {
+        Self::given(&fields(file))
+    }
+
+    pub fn given(fields: &[Field<'a>]) -> Self {
+        let mut plan = Self::default();
+        for item in fields.iter().filter_map(Field::item) {
+            match item {
+                Item::Device(device) => plan.devices.push(device),
+                Item::Link(link) => plan.links.push(link),
+                Item::Path(path) => plan.paths.push(path),
+                Item::Entry(entry) => plan.entries.push(entry),
+                Item::Timing(timing) => plan.timing = Some(timing),
+            }
+        }
+        plan
+    }
+
+    pub fn device(&self, number: u8) -> Option<Device> {
+        let found = self.devices.iter().find(|device| device.number == number);
+        found.copied()
+    }
+
+    pub fn link(&self, number: u8) -> Option<Link> {
+        let found = self.links.iter().find(|link| link.number == number);
+        found.copied()
+    }
+
+    pub fn path(&self, initiator: u8, target: u8) -> Option<Path<'a>> {
+        let found = self
+            .paths
+            .iter()
+            .find(|path| (path.initiator, path.target) == (initiator, target));
+        found.copied()
+    }
+
+    pub fn entry(&self, initiator: u8, slot: u8) -> Option<Entry<'a>> {
+        let found = self
+            .entries
+            .iter()
+            .find(|entry| (entry.initiator, entry.slot) == (initiator, slot));
+        found.copied()
+    }
+
+    pub fn entries_of(&self, initiator: u8) -> impl Iterator<Item = &Entry<'a>> {
+        self.entries
+            .iter()
+            .filter(move |entry| entry.initiator == initiator)
+    }
+
+    /// The devices that stand first in some path, rising.
+    pub fn initiators(&self) -> Vec<u8> {
+        let mut initiators: Vec<_> = self.paths.iter().map(|path| path.initiator).collect();
+        initiators.sort_unstable();
+        initiators.dedup();
+        initiators
+    }
+
+    /// The devices that a path meets, its initiator first; or what keeps it from being a walk.
+    pub fn walk(&self, path: &Path) -> Result<Vec<u8>, String> {
+        let mut met = vec![path.initiator];
+        let mut here = path.initiator;
+        for (place, &link) in path.links.iter().enumerate() {
+            here = self.step(here, link)?;
+            if met.contains(&here) {
+                return Err(format!(
+                    "link {link} leads back to device {here}, which was met before"
+                ));
+            }
+            met.push(here);
+            let last = place + 1 == path.links.len();
+            let router = self.device(here).is_some_and(|device| device.kind == 1);
+            if !last && !router {
+                return Err(format!(
+                    "link {link} leads to node {here}, and more links follow: between the ends only routers are met"
+                ));
+            }
+        }
+        let target = path.target;
+        if here != target {
+            return Err(format!(
+                "the last link leads to device {here}, and the target is {target}"
+            ));
+        }
+        Ok(met)
+    }
+
+    /// The device at the other end of a link.
+    fn step(&self, here: u8, link: u8) -> Result<u8, String> {
+        let [one, other] = self
+            .link(link)
+            .ok_or(format!("link {link} was not given"))?
+            .ends;
+        match (here == one, here == other) {
+            (true, _) => Ok(other),
+            (_, true) => Ok(one),
+            _ => Err(format!("link {link} joins devices {one} and {other} and does not touch {here}, where the path is by then")),
+        }
+    }
+
+    /// A path as a walk, "1 -0- 10 -2- 3"; a link to be shown stands between double lines, "1 =0= 10".
+    pub fn drawn(&self, path: &Path, shown: Option<u8>) -> String {
+        let Ok(met) = self.walk(path) else {
+            return path.to_string();
+        };
+        let mut drawn = path.initiator.to_string();
+        for (&link, device) in path.links.iter().zip(&met[1..]) {
+            let line = if shown == Some(link) { '=' } else { '-' };
+            drawn += &format!(" {line}{link}{line} {device}");
+        }
+        drawn
+    }
+}

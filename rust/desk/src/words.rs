@@ -1,0 +1,290 @@
+//! The words of docs/CARD.md for verdicts, refusals and records, and the short ones of a panel. tests/card.rs holds them against the card.
+
+use spwd::Record;
+
+/// A row of the card: what a number means and what to do about it.
+#[derive(Clone, Copy, Debug, PartialEq, Eq)]
+pub struct Row {
+    pub number: u8,
+    /// Of a verdict what follows its number, of a refusal the events that get it; nothing of a record.
+    pub about: &'static str,
+    pub means: &'static str,
+    pub to_do: &'static str,
+}
+
+const fn row(number: u8, about: &'static str, means: &'static str, to_do: &'static str) -> Row {
+    Row {
+        number,
+        about,
+        means,
+        to_do,
+    }
+}
+
+pub const VERDICTS: [Row; 15] = [
+    row(
+        0,
+        "devices links paths entries",
+        "the plan is in the box",
+        "compare the four counts with the team's own",
+    ),
+    row(
+        1,
+        "0",
+        "the file is longer than 16,384 bytes",
+        "it is not a plan, or two files were joined; ask for the plan alone",
+    ),
+    row(
+        2,
+        "offset",
+        "the file ends in the middle of a field",
+        "it was cut off when copied; copy it again",
+    ),
+    row(
+        3,
+        "offset",
+        "a field of a kind that does not exist",
+        "the file is damaged, or made for another box",
+    ),
+    row(
+        4,
+        "offset",
+        "a field out of order, or a second timing field",
+        "devices, links, paths, entries, timing: in this order; timing once",
+    ),
+    row(
+        5,
+        "offset",
+        "a field of a wrong length",
+        "too many links in a path (8) or targets in an entry (16), none at all, or damage",
+    ),
+    row(
+        6,
+        "offset",
+        "a number out of range, or a link or path from a device to itself",
+        "devices, links and slots are 0 to 63, spans 1 to 16, kinds 0 and 1; greatest interval 1 to 2,147,483,647 and not below the least",
+    ),
+    row(
+        7,
+        "offset",
+        "given a second time",
+        "the device, link, path or entry stands earlier in the file, or a target stands twice in this entry",
+    ),
+    row(
+        8,
+        "offset",
+        "something is named that was not given, or a router as initiator or target",
+        "give the device or link first; initiators and targets are nodes",
+    ),
+    row(
+        9,
+        "offset",
+        "a ninth initiator, or path number 129",
+        "the box runs 8 initiators and 128 paths",
+    ),
+    row(
+        10,
+        "offset",
+        "the links of a path do not lead from its initiator to its target",
+        "they must join end to end, over routers, meeting no device twice",
+    ),
+    row(
+        11,
+        "offset",
+        "an entry names a target to which its initiator has no path",
+        "add the path or take the target out",
+    ),
+    row(
+        12,
+        "file length",
+        "the timing field is missing",
+        "the plan is not complete",
+    ),
+    row(
+        13,
+        "initiator slot",
+        "this entry is still running when the same initiator's next entry begins",
+        "shorten its span or move the next entry (after slot 63 comes slot 0)",
+    ),
+    row(
+        14,
+        "slot, two initiators, link",
+        "in this slot both may be using this link",
+        "move one of the two, or take the targets apart that share the link",
+    ),
+];
+
+pub const REFUSALS: [Row; 11] = [
+    row(
+        20,
+        "all events, writing out",
+        "there is no plan in the box",
+        "load one",
+    ),
+    row(
+        21,
+        "time-code",
+        "the upper two bits of the byte are not 0",
+        "it is not a plain time-code; look at its source",
+    ),
+    row(
+        22,
+        "request, reply",
+        "this number is no initiator of the plan",
+        "an initiator stands first in some path of the plan",
+    ),
+    row(
+        23,
+        "request",
+        "the kind is neither 0 (read) nor 1 (write)",
+        "correct the request",
+    ),
+    row(
+        24,
+        "request",
+        "more than 4,096 data bytes",
+        "split the request",
+    ),
+    row(
+        25,
+        "request",
+        "no entry of this initiator permits this target with this length",
+        "256 bytes for each slot of the span: shorter, or another plan",
+    ),
+    row(
+        26,
+        "request",
+        "eight requests of this initiator are waiting",
+        "wait for starts; nothing was lost but this request",
+    ),
+    row(
+        27,
+        "reply",
+        "nothing of this initiator is under way",
+        "it was answered before, or reported late",
+    ),
+    row(
+        28,
+        "reply",
+        "another transaction is under way",
+        "the number is not the live one's: a reply that comes too late",
+    ),
+    row(
+        29,
+        "time-code",
+        "the record buffer has fewer than 136 bytes",
+        "lend 17 records of 8 bytes",
+    ),
+    row(
+        30,
+        "writing out",
+        "the room is smaller than the plan",
+        "13,643 bytes are always enough",
+    ),
+];
+
+pub const RECORDS: [Row; 6] = [
+    row(
+        1,
+        "",
+        "this time-code came early",
+        "the slots are shorter than planned: look at the time-code source",
+    ),
+    row(
+        2,
+        "",
+        "this time-code came late",
+        "as for 1; a clock that was set back shows as late too",
+    ),
+    row(
+        3,
+        "",
+        "this time-code is not the next one: nothing starts in this slot",
+        "look at the time-code source; what was under way is reported late",
+    ),
+    row(
+        4,
+        "",
+        "late: no reply came within the span",
+        "the transaction is over for the box; ask its target",
+    ),
+    row(
+        5,
+        "",
+        "started: initiator, target, number, length",
+        "nothing",
+    ),
+    row(
+        6,
+        "",
+        "not started: an earlier transaction of this initiator is still under way",
+        "the spans of an accepted plan leave no room for this; if it is ever seen, keep the box and its record buffer for examination",
+    ),
+];
+
+/// A number that the card does not have.
+const UNKNOWN: Row = row(0, "", "not on the card", "ask for a newer card");
+
+fn find(rows: &'static [Row], number: u8) -> Row {
+    let found = rows.iter().find(|row| row.number == number);
+    found.copied().unwrap_or(Row { number, ..UNKNOWN })
+}
+
+pub fn verdict(number: u8) -> Row {
+    find(&VERDICTS, number)
+}
+
+pub fn refusal(number: u8) -> Row {
+    find(&REFUSALS, number)
+}
+
+pub fn record(kind: u8) -> Row {
+    find(&RECORDS, kind)
+}
+
+/// What a panel says of a record.
+pub fn record_on_panel(record: &Record) -> String {
+    let initiator = record.initiator;
+    let transaction = transaction(record.number, record.target, record.length);
+    match record.kind {
+        Record::EARLY => "time-code early".to_string(),
+        Record::LATE => "time-code late".to_string(),
+        Record::OUT_OF_SEQUENCE => "time-code out of sequence".to_string(),
+        Record::TRANSACTION_LATE => format!("late: initiator {initiator} {transaction}"),
+        Record::STARTED => format!("initiator {initiator} starts {transaction}"),
+        Record::STILL_LIVE => {
+            format!("not started: initiator {initiator} still has {transaction}")
+        }
+        kind => format!("a record of kind {kind}: {}", UNKNOWN.means),
+    }
+}
+
+/// A transaction by its number, target and length.
+pub fn transaction(number: u16, target: u8, length: u16) -> String {
+    format!("number {number} to target {target}, {}", bytes(length))
+}
+
+pub fn bytes(length: u16) -> String {
+    match length {
+        1 => "1 byte".to_string(),
+        _ => format!("{length} bytes"),
+    }
+}
+
+/// The class of a reply's status.
+pub fn class(class: u8) -> &'static str {
+    match class {
+        0 => "success",
+        1 => "error",
+        _ => "reserved",
+    }
+}
+
+/// The kind of a request.
+pub fn request_kind(kind: u8) -> String {
+    match kind {
+        0 => "read".to_string(),
+        1 => "write".to_string(),
+        _ => format!("kind {kind}"),
+    }
+}

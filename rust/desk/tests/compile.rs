@@ -1,0 +1,195 @@
+//! `spwd-compile`: the same bytes as the gate's maker, the way back, complaints, verdicts with their lines.
+
+mod common;
+
+use common::{bytes, expected, plans, root, run, Chance, COMPILE};
+use desk::form::compile;
+use desk::script::{line_of, Command, Line};
+use desk::text::text_of;
+use std::fs;
+
+fn verdict(plan: &str) -> Option<String> {
+    let text = fs::read_to_string(root().join(plan)).unwrap();
+    let line = text
+        .lines()
+        .find_map(|line| line.strip_prefix("# verdict: "));
+    line.map(String::from)
+}
+
+/// A text and what it compiles to are the same bytes again.
+fn round_trip(file: &[u8]) {
+    let text = text_of(file).join("\n");
+    let compiled =
+        compile(text.as_bytes()).unwrap_or_else(|complaints| panic!("{text}\n{complaints:?}"));
+    assert_eq!(compiled.bytes, file, "{text}");
+}
+
+#[test]
+fn every_plan_as_the_gate_makes_it() {
+    for plan in plans("plans") {
+        let ran = run(COMPILE, &[&plan], b"");
+        assert_eq!(ran.out, bytes(&plan), "{plan}");
+        let verdict = verdict(&plan).unwrap();
+        let status = if verdict.starts_with("ACCEPTED") {
+            0
+        } else {
+            2
+        };
+        assert_eq!(ran.status, status, "{plan}");
+        let first = ran.err.lines().next().unwrap();
+        assert!(first.starts_with(&format!("{plan}: {verdict}")), "{first}");
+    }
+}
+
+#[test]
+fn every_plan_and_back() {
+    for plan in plans("plans") {
+        let file = bytes(&plan);
+        let text = run(COMPILE, &["--text", "-"], &file);
+        assert_eq!((text.err.as_str(), text.status), ("", 0), "{plan}");
+        let head = format!("# verdict: {}\n", verdict(&plan).unwrap());
+        assert!(text.text().starts_with(&head), "{plan}");
+        assert_eq!(run(COMPILE, &["-"], &text.out).out, file, "{plan}");
+    }
+}
+
+/// In hex as a script takes it, where the empty file is `-`.
+#[test]
+fn every_plan_in_hex() {
+    for plan in plans("plans") {
+        let hex = run(COMPILE, &["--hex", &plan], b"");
+        let line = hex.text().strip_suffix('\n').unwrap();
+        let load = line_of(format!("load {line}").as_bytes());
+        assert_eq!(load, Line::Command(Command::Load(bytes(&plan))), "{plan}");
+        let plain = run(COMPILE, &[&plan], b"");
+        assert_eq!((hex.err, hex.status), (plain.err, plain.status), "{plan}");
+    }
+}
+
+/// Blanks, tabs, zeros in front, digits of both cases, comments: both makers read them alike.
+#[test]
+fn odd_but_right() {
+    let text = b"# only a comment\n\n   node   007#x\n\trouter\t255 # \xc3\xa4 \xff\nlink 0 1 000000000000000000002\n\
+        path 1 2 3 4 5 6 7 8 9 10 11 12\nentry 1 64 0 9 9\nintervals 0 4294967295\nbytes 0a Fb FF 00\n   # end";
+    let file = root().join("target/odd-but-right.plan");
+    fs::create_dir_all(file.parent().unwrap()).unwrap();
+    fs::write(&file, text).unwrap();
+    let ran = run(COMPILE, &[file.to_str().unwrap()], b"");
+    assert_eq!(ran.out, bytes(file.to_str().unwrap()));
+    assert_eq!(ran.status, 2);
+    round_trip(&ran.out);
+}
+
+/// Lines that end as on Windows, and a byte order mark in front.
+#[test]
+fn lines_of_another_system() {
+    let ran = run(
+        COMPILE,
+        &["-"],
+        b"\xef\xbb\xbfnode 1\r\nintervals 90 110\r\n",
+    );
+    assert_eq!(ran.out, [1, 0, 2, 1, 0, 5, 0, 8, 0, 0, 0, 90, 0, 0, 0, 110]);
+    assert_eq!(
+        ran.err,
+        "standard input: ACCEPTED 1 0 0 0: devices 1, links 0, paths 0, entries 0\n"
+    );
+    assert_eq!(ran.status, 0);
+}
+
+#[test]
+fn back_for_bytes_by_chance() {
+    let mut chance = Chance(0x5eed_0001);
+    for _ in 0..2_000 {
+        let size = chance.below(200);
+        round_trip(&(0..size).map(|_| chance.byte()).collect::<Vec<_>>());
+    }
+    round_trip(&(0..40_000).map(|_| chance.byte()).collect::<Vec<_>>());
+}
+
+/// Fields whose tags and lengths are right or nearly so.
+#[test]
+fn back_for_fields_by_chance() {
+    let mut chance = Chance(0x5eed_0002);
+    for _ in 0..2_000 {
+        let mut file = Vec::new();
+        for _ in 0..chance.below(20) {
+            let length = chance.below(22);
+            file.extend([chance.below(7) as u8, 0, length as u8]);
+            file.extend((0..length).map(|_| chance.byte() >> chance.below(8)));
+        }
+        file.truncate(file.len().saturating_sub(chance.below(3)));
+        round_trip(&file);
+    }
+}
+
+#[test]
+fn back_in_words() {
+    let file = b"\x01\0\x02\x07\0\x01\0\x02\x08\x01\x01\0\x02\x09\x02\x01\0\x01\x07\x03\0\x02\x01\x02\x06\0\0\x05\0\x08\0\0\0Z\0\0\0n\x05\0";
+    let ran = run(COMPILE, &["--text", "-"], file);
+    assert_eq!(ran.text(), expected("compile/back.txt"));
+    assert_eq!((ran.err.as_str(), ran.status), ("", 0));
+    assert_eq!(run(COMPILE, &["-"], &ran.out).out, file);
+}
+
+#[test]
+fn complaints() {
+    let ran = run(COMPILE, &["rust/desk/tests/plans/complaints.plan"], b"");
+    assert_eq!(ran.err, expected("compile/complaints.txt"));
+    assert_eq!((ran.text(), ran.status), ("", 1));
+}
+
+#[test]
+fn twenty_complaints_and_how_many_more() {
+    let ran = run(COMPILE, &["-"], "what\n".repeat(25).as_bytes());
+    assert_eq!(ran.err.matches(": what\n").count(), 20);
+    assert!(ran.err.contains("standard input:20: what\n"), "{}", ran.err);
+    assert!(
+        ran.err
+            .ends_with("standard input: and 5 more lines that are no item\n"),
+        "{}",
+        ran.err
+    );
+    assert_eq!((ran.text(), ran.status), ("", 1));
+}
+
+/// The box refuses: the bytes are there, and the line that it is about.
+#[test]
+fn refused_with_its_line() {
+    for (plan, stored) in [
+        ("plans/juice.plan", "compile/juice.txt"),
+        ("plans/sample-overrun.plan", "compile/sample-overrun.txt"),
+        (
+            "plans/sample-first-clash.plan",
+            "compile/sample-first-clash.txt",
+        ),
+        ("plans/sample-empty.plan", "compile/sample-empty.txt"),
+    ] {
+        let ran = run(COMPILE, &[plan], b"");
+        assert_eq!(ran.err, expected(stored), "{plan}");
+        assert_eq!((ran.out, ran.status), (bytes(plan), 2), "{plan}");
+    }
+}
+
+/// A field that begins in the middle of a line of bytes, or is made by two lines, is found by the line that made its tag.
+#[test]
+fn lines_of_bytes() {
+    let text = "bytes 01 00 02 01 00 01 00\nbytes 02 01\nbytes 00\n";
+    let ran = run(COMPILE, &["-"], text.as_bytes());
+    assert!(
+        ran.err.starts_with("standard input: REFUSED 7 5\n"),
+        "{}",
+        ran.err
+    );
+    assert!(
+        ran.err
+            .contains("    standard input:1: bytes 01 00 02 01 00 01 00\n"),
+        "{}",
+        ran.err
+    );
+    assert!(
+        ran.err.contains("    device 1 was given at line 1\n"),
+        "{}",
+        ran.err
+    );
+    assert_eq!(ran.status, 2);
+}

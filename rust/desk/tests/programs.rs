@@ -1,0 +1,154 @@
+//! What the three programs have in common: help, wrong words, files that cannot be read, readers that go away.
+
+mod common;
+
+use common::{root, run, COMPILE, PANEL, SHOW};
+use std::fs::File;
+use std::io::Write;
+use std::process::{Command, Stdio};
+
+const PROGRAMS: [(&str, &str); 3] = [
+    ("spwd-compile", COMPILE),
+    ("spwd-show", SHOW),
+    ("spwd-panel", PANEL),
+];
+
+#[test]
+fn help() {
+    for (name, program) in PROGRAMS {
+        let ran = run(program, &["--help"], b"");
+        assert!(ran.text().starts_with(&format!("{name} ")), "{name}");
+        assert!(ran.text().contains("\nStatus: 0 "), "{name}");
+        assert_eq!((ran.err.as_str(), ran.status), ("", 0), "{name}");
+    }
+}
+
+fn refused(program: &str, words: &[&str], said: &str) {
+    let ran = run(program, words, b"");
+    assert_eq!(
+        (ran.text(), ran.err.as_str(), ran.status),
+        ("", said, 3),
+        "{words:?}"
+    );
+}
+
+#[test]
+fn wrong_words() {
+    for (name, program) in PROGRAMS {
+        refused(
+            program,
+            &["--what"],
+            &format!("{name}: there is no option --what; see {name} --help\n"),
+        );
+        refused(
+            program,
+            &["-t", "a"],
+            &format!("{name}: there is no option -t; see {name} --help\n"),
+        );
+        refused(
+            program,
+            &["a", "b"],
+            &format!("{name}: one file at a time, and b is one more; see {name} --help\n"),
+        );
+        let missing = format!("{name}: no-such-file: No such file or directory (os error 2)\n");
+        refused(program, &["no-such-file"], &missing);
+        refused(
+            program,
+            &["--", "--help"],
+            &missing.replace("no-such-file", "--help"),
+        );
+        refused(
+            program,
+            &["plans"],
+            &format!("{name}: plans: Is a directory (os error 21)\n"),
+        );
+    }
+}
+
+#[test]
+fn words_that_do_not_go_together() {
+    refused(
+        COMPILE,
+        &["--hex", "--text", "a"],
+        "spwd-compile: one option at a time; see spwd-compile --help\n",
+    );
+    refused(
+        COMPILE,
+        &[],
+        "spwd-compile: a file is missing; see spwd-compile --help\n",
+    );
+    refused(
+        SHOW,
+        &["--text", "--bytes"],
+        "spwd-show: --text and --bytes exclude each other; see spwd-show --help\n",
+    );
+}
+
+#[test]
+fn too_much_to_be_a_plan() {
+    let ran = run(COMPILE, &["--text", "-"], &vec![0; (1 << 20) + 1]);
+    assert_eq!(
+        ran.err,
+        "spwd-compile: standard input: longer than 1048576 bytes: this is no plan\n"
+    );
+    assert_eq!((ran.text(), ran.status), ("", 3));
+}
+
+/// Nobody reads standard output: the program ends without a word, with the status that it would have had.
+#[test]
+fn a_closed_pipe() {
+    let script = "clear\n".repeat(100_000);
+    let plan = std::fs::read(root().join("plans/astro-h.plan")).unwrap();
+    for (program, words, input) in [
+        (COMPILE, &["--text", "-"][..], vec![7; 1 << 20]),
+        (COMPILE, &["plans/sample-first.plan"], Vec::new()),
+        (SHOW, &["--text"], plan),
+        (PANEL, &[], script.into_bytes()),
+    ] {
+        let mut child = Command::new(program)
+            .args(words)
+            .current_dir(root())
+            .stdin(Stdio::piped())
+            .stdout(Stdio::piped())
+            .stderr(Stdio::piped())
+            .spawn()
+            .unwrap();
+        drop(child.stdout.take());
+        let mut stdin = child.stdin.take().unwrap();
+        // The program may stop reading.
+        let _ = stdin.write_all(&input);
+        drop(stdin);
+        let output = child.wait_with_output().unwrap();
+        let err = String::from_utf8(output.stderr).unwrap();
+        assert!(!err.contains("panic"), "{err}");
+        assert_eq!(output.status.code(), Some(0), "{words:?}: {err}");
+    }
+}
+
+/// A full disk is said, and neither it nor a standard error that is full makes a panic.
+#[test]
+fn a_full_disk() {
+    let full = || Stdio::from(File::options().write(true).open("/dev/full").unwrap());
+    for (name, program, words) in [
+        ("spwd-compile", COMPILE, "plans/sample-first.plan"),
+        ("spwd-show", SHOW, "plans/sample-first.plan"),
+        ("spwd-panel", PANEL, "rust/desk/tests/scripts/samples.txt"),
+    ] {
+        let run = |err: Stdio| {
+            let mut command = Command::new(program);
+            let command = command.arg(words).current_dir(root());
+            command
+                .stdout(full())
+                .stderr(err)
+                .spawn()
+                .unwrap()
+                .wait_with_output()
+                .unwrap()
+        };
+        let output = run(Stdio::piped());
+        let said = format!("{name}: standard output: No space left on device (os error 28)\n");
+        assert_eq!(String::from_utf8(output.stderr).unwrap(), said);
+        assert_eq!(output.status.code(), Some(3), "{name}");
+        assert_eq!(run(full()).status.code(), Some(3), "{name}");
+    }
+}

@@ -1,0 +1,125 @@
+//! Whatever is refused is put into words: plans damaged by chance, until every verdict was seen.
+
+mod common;
+
+use common::{bytes, plans, Chance};
+use desk::judge::judge;
+use desk::page::page;
+use desk::source::Source;
+use spwd::Verdict;
+
+/// A plan with a byte changed, or with fields left out, doubled or exchanged.
+fn damaged(chance: &mut Chance, file: &[u8]) -> Vec<u8> {
+    let mut file = file.to_vec();
+    for _ in 0..1 + chance.below(2) {
+        if file.is_empty() {
+            return file;
+        }
+        let at = chance.below(file.len());
+        match chance.below(4) {
+            0 => file[at] ^= 1 << chance.below(8),
+            1 => file[at] = chance.below(20) as u8,
+            2 => file.truncate(at),
+            _ => {
+                let fields = desk::fields::fields(&file);
+                let mut parts: Vec<_> = fields.iter().map(|field| field.bytes).collect();
+                let (one, other) = (chance.below(parts.len()), chance.below(parts.len()));
+                match chance.below(3) {
+                    0 => parts.insert(one, parts[other]),
+                    1 => drop(parts.remove(one)),
+                    _ => parts.swap(one, other),
+                }
+                file = parts.concat();
+            }
+        }
+    }
+    file
+}
+
+/// Lines of a page behind the verdict's own, which are up to the first empty line.
+fn behind(lines: &[String]) -> &[String] {
+    let end = lines.iter().position(String::is_empty);
+    end.map_or(&[], |end| &lines[end + 1..])
+}
+
+/// What a page must say beside the card's words.
+fn explained(file: &[u8], verdict: &Verdict, lines: &[String]) {
+    let behind = behind(lines);
+    let indented = behind
+        .iter()
+        .filter(|line| line.starts_with("    "))
+        .count();
+    match *verdict {
+        Verdict::Accepted { .. } => assert!(behind.len() > 4),
+        Verdict::Faulty { number: 1 | 12, .. } => assert!(behind.is_empty()),
+        Verdict::Faulty { place, .. } => {
+            assert!(behind[0].starts_with(&format!("the field at offset {place}: ")));
+            let field = desk::fields::fields(file)
+                .into_iter()
+                .find(|field| field.offset == place.into());
+            let said = usize::from(field.unwrap().item().is_some());
+            assert!(indented > said, "{verdict}: {lines:?}");
+        }
+        Verdict::Overrun { .. } => {
+            let entries = behind
+                .iter()
+                .filter(|line| line.starts_with("  entry of "))
+                .count();
+            assert!(entries >= 2, "{verdict}: {lines:?}");
+        }
+        Verdict::Clash { link, .. } => {
+            let entries = behind
+                .iter()
+                .filter(|line| line.starts_with("  entry of "))
+                .count();
+            let walks = behind
+                .iter()
+                .filter(|line| line.contains(&format!(" ={link}= ")))
+                .count();
+            assert!(entries == 2 && walks >= 2, "{verdict}: {lines:?}");
+        }
+    }
+}
+
+#[test]
+fn every_refusal_is_explained() {
+    let mut whole: Vec<_> = plans("plans").iter().map(|plan| bytes(plan)).collect();
+    // A plan with 128 paths, so that one more is at hand, and one that is too long.
+    whole.push(many_paths());
+    whole.push(vec![1; 16_385]);
+    let mut chance = Chance(0x5eed_0003);
+    let mut seen = [0; 15];
+    for _ in 0..20_000 {
+        let plan = &whole[chance.below(whole.len())];
+        let file = damaged(&mut chance, plan);
+        let verdict = judge(&file).verdict;
+        let source = Source::file("a file".to_string(), file.clone());
+        let (lines, accepted) = page(&source);
+        assert_eq!(lines[0], verdict.to_string());
+        assert_eq!(accepted, verdict.number() == 0);
+        explained(&file, &verdict, &lines);
+        seen[usize::from(verdict.number())] += 1;
+    }
+    assert!(seen.iter().all(|&count| count > 0), "{seen:?}");
+}
+
+/// A star of 8 initiators and 16 further nodes, each initiator with a path to each of these.
+fn many_paths() -> Vec<u8> {
+    let mut text = String::new();
+    for node in 0..24 {
+        text += &format!("node {node}\n");
+    }
+    text += "router 30\n";
+    for node in 0..24 {
+        text += &format!("link {node} {node} 30\n");
+    }
+    for initiator in 0..8 {
+        for target in 8..24 {
+            text += &format!("path {initiator} {target} {initiator} {target}\n");
+        }
+    }
+    text += "intervals 90 110\n";
+    let file = desk::form::compile(text.as_bytes()).unwrap().bytes;
+    assert_eq!(judge(&file).verdict.to_string(), "ACCEPTED 25 24 128 0");
+    file
+}

@@ -1,0 +1,119 @@
+//! `spwd-show`: whole pages, for accepted, refused and damaged plans.
+
+mod common;
+
+use common::{bytes, expected, plans, run, SHOW};
+
+/// Shows a text form and compares the whole page; the status follows from its first word.
+fn shows(plan: &str, stored: &str) {
+    let ran = run(SHOW, &[plan], b"");
+    assert_eq!(ran.text(), expected(stored), "{plan}");
+    let status = if ran.text().starts_with("ACCEPTED ") {
+        0
+    } else {
+        2
+    };
+    assert_eq!((ran.err.as_str(), ran.status), ("", status), "{plan}");
+}
+
+#[test]
+fn plans_of_the_project() {
+    for name in [
+        "sample-first",
+        "sample-intervals",
+        "astro-h",
+        "figure-21-t3",
+        "sample-over-63",
+        "sample-first-clash",
+        "figure-21-mixed",
+        "sample-overrun",
+        "figure-3-5-overrun",
+        "juice",
+        "sample-tag-6",
+        "sample-intervals-twice",
+        "sample-empty",
+    ] {
+        shows(&format!("plans/{name}.plan"), &format!("show/{name}.txt"));
+    }
+}
+
+/// Spans over the ends of blocks and over slot 63, and a plan for each of the verdicts 2 to 12 that the project's plans do not get.
+#[test]
+fn plans_of_these_tests() {
+    for plan in plans("rust/desk/tests/plans") {
+        let name = plan.rsplit('/').next().unwrap().trim_end_matches(".plan");
+        if name != "complaints" {
+            shows(&plan, &format!("show/{name}.txt"));
+        }
+    }
+}
+
+/// From a plan file the page is that from the text, but for the lines of the text.
+#[test]
+fn from_bytes() {
+    for name in ["sample-first", "sample-over-63", "juice"] {
+        let plan = format!("plans/{name}.plan");
+        let ran = run(SHOW, &[], &bytes(&plan));
+        let page = expected(&format!("show/{name}.txt"));
+        let lines = page
+            .lines()
+            .filter(|line| !line.contains(&format!("{plan}:")));
+        let page: String = lines.map(|line| format!("{line}\n")).collect();
+        assert_eq!(ran.text(), page, "{plan}");
+        assert_eq!(ran.err, "", "{plan}");
+    }
+}
+
+#[test]
+fn cut_off() {
+    let file = &bytes("plans/sample-first.plan")[..100];
+    let ran = run(SHOW, &["-"], file);
+    assert_eq!(ran.text(), expected("show/cut-off.txt"));
+    assert_eq!((ran.err.as_str(), ran.status), ("", 2));
+}
+
+#[test]
+fn one_byte_changed() {
+    let mut file = bytes("plans/sample-first.plan");
+    // The length of the first link.
+    file[32] ^= 0x40;
+    let ran = run(SHOW, &["-"], &file);
+    assert_eq!(ran.text(), expected("show/one-byte-changed.txt"));
+    assert_eq!((ran.err.as_str(), ran.status), ("", 2));
+}
+
+#[test]
+fn too_long() {
+    let mut file = bytes("plans/sample-first.plan");
+    file.resize(16_385, 0);
+    let ran = run(SHOW, &["-"], &file);
+    assert_eq!(ran.text(), expected("show/too-long.txt"));
+    assert_eq!((ran.err.as_str(), ran.status), ("", 2));
+}
+
+/// `--text` and `--bytes` are stronger than the name.
+#[test]
+fn forms() {
+    let text = std::fs::read(common::root().join("plans/sample-first.plan")).unwrap();
+    let page = expected("show/sample-first.txt");
+    assert_eq!(run(SHOW, &["--text"], &text).text(), page);
+    assert_eq!(run(SHOW, &["--text", "-"], &text).text(), page);
+    let ran = run(SHOW, &["--bytes", "plans/sample-first.plan"], b"");
+    assert!(ran.text().starts_with("REFUSED 2 0\n"), "{}", ran.text());
+    assert_eq!(ran.status, 2);
+    let ran = run(SHOW, &["--text"], &bytes("plans/sample-intervals.plan"));
+    assert_eq!((ran.text(), ran.status), ("", 1));
+    assert!(ran.err.starts_with("standard input:1: "), "{}", ran.err);
+}
+
+/// No line of a page of an accepted plan is wider than 80 columns.
+#[test]
+fn width() {
+    for plan in plans("plans") {
+        let ran = run(SHOW, &[&plan], b"");
+        if ran.status == 0 {
+            let widest = ran.text().lines().map(str::len).max();
+            assert!(widest <= Some(80), "{plan}: {widest:?}");
+        }
+    }
+}
