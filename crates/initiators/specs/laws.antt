@@ -4,3 +4,4 @@ pub mod Found
 pub mod Refused
 pub mod Sweeps
 pub mod Words
+pub mod RowWords

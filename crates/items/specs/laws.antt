@@ -1,11 +1,5 @@
 pub mod Rows
 pub mod Numbers
 pub mod Sets
-pub mod Ends
-pub mod Slots
 pub mod Ranges
 pub mod Judged
-pub mod Timings
-pub mod Devices
-pub mod Links
-pub mod Entries

@@ -1,7 +1,3 @@
-// The items of a plan, judged one by one and kept in plan memory: devices, links, intervals, entries.
-pub mod device;
-pub mod entry;
-pub mod link;
+// What the items of a plan share: the rows of the initiators, and the numbers of a field gone through once.
 pub mod rows;
 pub mod several;
-pub mod timing;

@@ -1,10 +1,6 @@
-pub mod Walks
-pub mod PathRows
-pub mod PathFaults
 pub mod Passed
 pub mod GrownPath
-pub mod OwnRow
-pub mod PathPlace
+pub mod Stored
 pub mod KeptRows
 pub mod KeptReach
 pub mod KeptPaths

@@ -1,4 +1,3 @@
-pub mod Fields
 pub mod Load
 pub mod Back
 pub mod laws

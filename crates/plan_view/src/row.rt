@@ -12,7 +12,7 @@ ghost use Rattle.plan_view.specs.View.{rowFor};
 pub fn count_of(numbers: &[u32; 6]) -> usize
     ensures { λ r. ⌜ ((size : ℕ) (p : Plan) → Sound p → now (numbers .entry) ≡ numbersWith size p → r ≡ length (initiators p)) ⌝ }
 {
-    items::rows::at_most_8(numbers[2])
+    plan_memory::at_most(numbers[2], 8)
 }
 
 // The row of initiator i, 8 where the plan has no such initiator.

@@ -1,4 +1,3 @@
 // Requests and replies, on plan memory and run memory that the caller lends.
 pub mod reply;
 pub mod request;
-pub mod status;

@@ -13,6 +13,7 @@ ghost use Rattle.plan_memory.specs.Memory.{rowsOf, pathsOf, spansOf, aimsOf, nu
 ghost use Rattle.searches.specs.Found.{searchOf};
 ghost use Rattle.searches.specs.Searches.{coverPlace, linksAt, leadsOver, laneOf, lanesOf, meets, leastCommon, Searched};
 use crate::overrun::Search;
+use plan_memory::at_most;
 use plan_rules::Verdict;
 
 // Where the entry of the row stands that covers the slot: 64 × row + its slot; 512 for none.
@@ -31,20 +32,13 @@ fn covering(spans: &[u8; 512], row: usize, slot: usize) -> usize
     512
 }
 
-// The number, and 8 where it is more.
-fn up_to_8(n: u8) -> usize
-    ensures { λ r. ⌜ r ≡ min 8 n ⌝ }
-{
-    if n < 8 { n as usize } else { 8 }
-}
-
 // The links of path number k.
 fn path_links(paths: &[u8], k: usize) -> u64
     requires { ⌜ (k < 128) × (length (now paths) ≡ 1408) ⌝ }
     ensures { λ r. ⌜ ((l : ℕ) → member l r ≡ listed (linksAt (now (paths .entry)) k) l) ⌝ }
 {
     let start = k * 11 + 3;
-    let end = start + up_to_8(paths[k * 11 + 2]);
+    let end = start + at_most(paths[k * 11 + 2] as u32, 8);
     sets::set_of(&paths[start..end])
 }
 

@@ -2,7 +2,7 @@
 -- and what the least member, the size and the test for common members say. Assumes nothing.
 use mathlib.Core.Path.{_≡_, refl, sym, ap, ap₂, _∙_}
 use mathlib.Core.List.{List, List·Memᴰ}
-use mathlib.Core.Bool.{Bool, true, false, not, _&&_, _||_, false≢true}
+use mathlib.Core.Bool.{Bool, true, false, not, _&&_, _||_, and-true, false≢true}
 use mathlib.Core.Logic.{_↔_, by-cases}
 use Prim.Native.Nat.{ℕ, zero, suc, _+_, _-_, _*_, _/_, _%_, _^_, _≤_, _<_, min, max}
 use native.Mathlib.Nat.{div-one, zero-div, div-eq-of-lt, lt-of-lt-of-le, pow-suc}
@@ -20,7 +20,7 @@ use Rattle.lists.specs.laws.Bools.{both-true, true-both, not-both, same-test}
 use Rattle.lists.specs.laws.Search.{all-elim, all-intro, isIn-elim, isIn-intro}
 use Rattle.lists.specs.laws.Numbers.{Finds, any-true, any-false, first-from, digit-lt, count-le}
 use Rattle.lists.specs.laws.Sweep.{none-below}
-use Rattle.sets.specs.Set.{member, members, common, listed, onlyIn, disjointOf, withinOf, leastOf, sizeOf}
+use Rattle.sets.specs.Set.{member, added, members, common, listed, onlyIn, disjointOf, withinOf, leastOf, sizeOf}
 
 -- The digit of s at the place k is that of the test for k.
 pub bit-of : (k s : ℕ) → s / 2 ^ k % 2 ≡ digit (member k s)
@@ -56,6 +56,10 @@ member-suc k s = ap (λ (x : ℕ). eqb (x % 2) 1) (ap (λ (j : ℕ). s / 2 ^ j) 
 pub member-empty : (k : ℕ) → member k 0 ≡ false
 unfolding member
 member-empty k = ap (λ (x : ℕ). eqb (x % 2) 1) (zero-div (2 ^ k))
+
+-- A word with t added has, below 64, t and what it had.
+pub added-below : (t s m : ℕ) → m < 64 → added t s m ≡ (eqb m t || member m s)
+added-below t s m h = rw (lt-ltb m 64 h) (ap (λ b. b || member m s) (and-true (eqb m t)))
 
 -- A number of w digits has no member from w on.
 pub member-beyond : (w k s : ℕ) → s < 2 ^ w → w ≤ k → member k s ≡ false

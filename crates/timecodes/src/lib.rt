@@ -1,5 +1,2 @@
-// Time-codes: records, lateness, visits, on plan memory and run memory that the caller lends.
-pub mod late;
-pub mod records;
+// A time-code, on plan memory and run memory that the caller lends.
 pub mod time;
-pub mod visit;

@@ -16,13 +16,13 @@ ghost use Rattle.box_rules.specs.Step as rules;
 ghost use Rattle.box_rules.specs.Step.{ticked};
 ghost use Rattle.initiators.specs.Run.{lastOf, runOf};
 ghost use Rattle.initiators.specs.Memory.{Finds, Does};
-use crate::late::report_late;
-use crate::records::put_sequence;
-use crate::records::put_watchdog;
-use crate::visit::visit_all;
 use box_rules::Answer;
 use box_rules::Watchdog;
+use late::report_late;
 use plan_view::interval::is_loaded;
+use records::put_sequence;
+use records::put_watchdog;
+use visits::visit_all;
 use watchdog::watch::Stepped;
 use watchdog::watch::fed_with;
 

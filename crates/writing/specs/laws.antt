@@ -1,5 +1,4 @@
 pub mod Parts
-pub mod Eights
 pub mod Devices
 pub mod Links
 pub mod Paths

@@ -30,7 +30,7 @@ module _ (s : Side) (f : FitSide s) where
   abbrev rest : List ℕ
   rest = liveWord (s .live) ∷ liveTime (s .live) ∷ []
 
-  eight : length places ≡ 8
+  pub eight : length places ≡ 8
   eight = length-padded 8 0 (map wordOf (s .line)) (omega (arith, length-map (s .line) wordOf, f .few))
 
   pub live-word-in : getD (rowOf s) 10 0 ≡ liveWord (s .live)

@@ -28,8 +28,10 @@ use Rattle.plan_rules.specs.laws.InRange.{path-ranged}
 use Rattle.plan_rules.specs.laws.Initiators.{most-grows}
 use Rattle.plan_rules.specs.laws.Ranges.{route-range}
 use Rattle.plan_memory.specs.Memory.{pathRow, pathsInOrder, pathsOf}
-use Rattle.paths.specs.Keep.{IsPlace, keptPaths}
-use Rattle.paths.specs.laws.PathPlace.{before-precedes, behind-precedes, row-length}
+use Rattle.paths.specs.Keep.{keptPaths}
+use Rattle.path_places.specs.Places.{IsPlace}
+use Rattle.path_places.specs.laws.PathPlace.{before-precedes, behind-precedes}
+use Rattle.paths.specs.laws.Stored.{row-length}
 
 -- the paths of a fair plan in order: as many, each with eleven bytes
 module _ (p : Plan) (f : Fair p) where

@@ -10,7 +10,8 @@ use Rattle.plan_rules.specs.Plan.{nth, Route, Plan, path}
 use Rattle.plan_rules.specs.laws.Fair.{Fair}
 use Rattle.plan_memory.specs.Memory.{rowsOf, reachOf, pathRow, pathsInOrder, pathsOf, numbersWith}
 use Rattle.plan_memory.specs.Take.{itemFault, taken}
-use Rattle.paths.specs.Keep.{IsPlace, withRow, keptReach, keptPaths, keptNumbers}
+use Rattle.paths.specs.Keep.{keptReach, keptPaths, keptNumbers}
+use Rattle.path_places.specs.Places.{IsPlace, withRow}
 use Rattle.paths.specs.laws.Passed.{faultless, taken-grows}
 use Rattle.paths.specs.laws.KeptRows.{rows-kept, numbers-kept}
 use Rattle.paths.specs.laws.KeptReach.{reach-length, reach-kept}

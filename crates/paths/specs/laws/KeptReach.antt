@@ -24,11 +24,12 @@ use Rattle.plan_rules.specs.laws.Fair.{Fair}
 use Rattle.plan_rules.specs.laws.Chain.{Passes}
 use Rattle.plan_rules.specs.laws.Initiators.{initiator-in, initiators-once, eight-grows}
 use Rattle.plan_memory.specs.Memory.{rowsOf, ofRow, reachOf}
-use Rattle.paths.specs.Keep.{rowAmong, keptReach}
-use Rattle.paths.specs.laws.Walks.{added-below}
-use Rattle.paths.specs.laws.PathRows.{reach-some, no-paths}
+use Rattle.paths.specs.Keep.{keptReach}
+use Rattle.items.specs.Rows.{rowAmong}
+use Rattle.sets.specs.Laws.{added-below}
+use Rattle.path_faults.specs.laws.PathRows.{reach-some, no-paths}
 use Rattle.paths.specs.laws.GrownPath.{own-hasPath, other-hasPath, kept-initiators}
-use Rattle.paths.specs.laws.OwnRow.{old-row, old-array, new-row, new-array}
+use Rattle.path_places.specs.laws.OwnRow.{old-row, old-array, new-row, new-array}
 use Rattle.paths.specs.laws.KeptRows.{row-of-x, has-row, no-row-yet, room, inserted, row-place}
 
 -- the word of an initiator

@@ -23,10 +23,12 @@ use Rattle.plan_rules.specs.laws.Chain.{Passes}
 use Rattle.plan_rules.specs.laws.Ranges.{route-range}
 use Rattle.plan_rules.specs.laws.Initiators.{initiator-in}
 use Rattle.plan_memory.specs.Memory.{rowsOf, numbersWith}
-use Rattle.paths.specs.Keep.{rowAmong, rowPlace, withRow, keptNumbers}
-use Rattle.paths.specs.laws.PathRows.{RowRead, row-read}
+use Rattle.paths.specs.Keep.{keptNumbers}
+use Rattle.items.specs.Rows.{rowAmong}
+use Rattle.path_places.specs.Places.{rowPlace, withRow}
+use Rattle.path_faults.specs.laws.PathRows.{RowRead, row-read}
 use Rattle.paths.specs.laws.GrownPath.{kept-initiators, one-initiator}
-use Rattle.paths.specs.laws.OwnRow.{old-array, new-array, old-count, new-count}
+use Rattle.path_places.specs.laws.OwnRow.{old-array, new-array, old-count, new-count}
 
 module _ (p : Plan) (f : Fair p) (x : Route) (g : Passes p (path x)) where
   abbrev i : ℕ

@@ -20,11 +20,11 @@ use Rattle.box_rules.specs.laws.Steps.{step-accepted}
 use Rattle.box_rules.specs.laws.Fit.{FitSide}
 use Rattle.initiators.specs.Run.{sideOf, changed, rowsWith}
 use Rattle.initiators.specs.laws.RunSides.{on-side, runs-kept, runs-changed}
-use Rattle.requests.specs.Sides.{repliedAnswer, repliedSide}
+use Rattle.ending.specs.Sides.{repliedAnswer, repliedSide}
 use Rattle.initiators.specs.Memory.{Finds, Answers}
 use Rattle.initiators.specs.laws.Found.{Loaded, Rowed, plan-told, is-initiator, its-row, no-initiator}
 use Rattle.initiators.specs.laws.Refused.{refuses}
-use Rattle.requests.proofs.reply.Finishes.{no-number}
+use Rattle.ending.specs.laws.Live.{no-number}
 
 module _
     {b : Box}

@@ -21,11 +21,11 @@ use Rattle.box_rules.specs.laws.Fit.{FitSide}
 use Rattle.box_rules.specs.laws.Steps.{step-accepted}
 use Rattle.initiators.specs.Run.{sideOf, changed, rowsWith}
 use Rattle.initiators.specs.laws.RunSides.{on-side, runs-kept, runs-changed}
-use Rattle.requests.specs.Sides.{isFull, askedAnswer, askedSide}
+use Rattle.asking.specs.Sides.{isFull, askedAnswer, askedSide}
 use Rattle.initiators.specs.Memory.{Finds, Answers}
 use Rattle.initiators.specs.laws.Found.{Loaded, Rowed, plan-told, is-initiator, its-row, no-initiator}
 use Rattle.initiators.specs.laws.Refused.{refuses}
-use Rattle.requests.proofs.request.Slots.{Tried}
+use Rattle.asking.specs.Sides.{Tried}
 
 module _
     {b : Box}

@@ -15,7 +15,7 @@ use Rattle.lists.specs.laws.Bools.{not-both, not-some}
 use Rattle.lists.specs.laws.Stores.{put-more, put-front}
 use Rattle.plan_rules.specs.Print.{text}
 use Rattle.script.specs.Script.{same, isHex, hexOf, pairsOf, isPairs, bytesOf, decoded}
-use Rattle.script.specs.laws.Words.{same-true}
+use Rattle.script.specs.laws.Bytes.{bytes-pairs, pairs-length}
 use Rattle.script.proofs.words.Equal.{same-lengths}
 
 -- one byte: `-`, or half a pair
@@ -54,25 +54,6 @@ module _ (w : List ℕ) (h : length w ≡ 1 → ⊥) where
   pub in-pairs : 0 < length w → length w ≤ 32_800 → length w % 2 ≡ 0 → all isHex w ≡ isSome (bytesOf w)
   unfolding isPairs
   in-pairs p l k = by-pairs (rw (lt-ltb 0 (length w) p, le-leb (length w) 32_800 l, eq-eqb (length w % 2) 0 k))
-
--- the bytes of every byte string are its pairs, `-` too
-bytes-pairs : (w : List ℕ) → isSome (bytesOf w) ≡ true → bytesOf w ≡ some (pairsOf w)
-unfolding bytesOf isSome when pairsOf text
-bytes-pairs w h = go (same w (text "-")) refl
-  where
-    go : (b : Bool) → same w (text "-") ≡ b → bytesOf w ≡ some (pairsOf w)
-    go true e = rw (e, bytesOf) (ap (λ (v : List ℕ). some (pairsOf v)) (sym (same-true w (text "-") e)))
-    go false e = rw (e, bytesOf) (by (isPairs w) (rw (e, bytesOf) at h))
-      where
-        by : (b : Bool) → isSome (when b (pairsOf w)) ≡ true → when b (pairsOf w) ≡ some (pairsOf w)
-        by true g = refl
-        by false g = not-both g refl
-
-pub pairs-length : (w : List ℕ) → length (pairsOf w) ≡ length w / 2
-unfolding pairsOf
-pairs-length [] = refl
-pairs-length (h ∷ []) = refl
-pairs-length (h ∷ l ∷ rest) = omega (arith, pairs-length rest)
 
 pair-at : (w : List ℕ) (i : ℕ) → 2 * i + 1 < length w → 16 * hexOf (getD w (2 * i) 0) + hexOf (getD w (2 * i + 1) 0) ≡ getD (pairsOf w) i 0
 unfolding pairsOf

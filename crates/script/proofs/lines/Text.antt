@@ -12,6 +12,7 @@ use Rattle.lists.specs.laws.Stores.{put-one, put-then, flat-more}
 use Rattle.lists.specs.laws.Puts.{puts-over}
 use Rattle.plan_rules.specs.Print.{text}
 use Rattle.script.specs.Lines.{hexDigit, hexByte, hexText}
+use Rattle.script.specs.laws.Lengths.{text-length}
 
 pub number-digit : (n : ℕ) → n < 10 → 48 + n ≡ hexDigit n
 unfolding hexDigit
@@ -20,11 +21,6 @@ number-digit n h = rw (lt-ltb n 10 h)
 pub letter-digit : (n : ℕ) → 10 ≤ n → 97 + (n - 10) ≡ hexDigit n
 unfolding hexDigit
 letter-digit n h = rw (le-ltb n 10 h)
-
-text-length : (bs : List ℕ) → length (flatMap hexByte bs) ≡ 2 * length bs
-unfolding flatMap hexByte
-text-length [] = refl
-text-length (b ∷ bs) = omega (arith, text-length bs)
 
 some-bytes : (bs : List ℕ) → 0 < length bs → hexText bs ≡ flatMap hexByte bs
 unfolding hexText

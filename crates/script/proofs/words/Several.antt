@@ -15,16 +15,10 @@ use Rattle.lists.specs.Search.{all}
 use Rattle.lists.specs.laws.Bools.{both-true, not-both, when-some}
 use Rattle.script.specs.Script.{inFront, wordsOf, isDigit, valueFrom, numberOf, before, numbersOf}
 use Rattle.script.specs.Reading.{WordEnds, NumbersRead, behindWord, orNone}
+use Rattle.script.specs.laws.Rooms.{number-most}
 use Rattle.script.proofs.words.Split.{in-word-begin}
 
--- a number is at most its bound, so that the one for none is none
-number-most : (most : ℕ) (w : List ℕ) (n : ℕ) → numberOf most w ≡ some n → n ≤ most
-unfolding numberOf
-number-most most w n e =
-    let p = when-some (ltb 0 (length w) && all isDigit w && leb (valueFrom 0 w) most) (valueFrom 0 w) n e in
-    let q = both-true (ltb 0 (length w) && all isDigit w) (leb (valueFrom 0 w) most) (p .0) in
-    omega (arith, leb-true (valueFrom 0 w) most (q .1), p .1)
-
+-- the number for none is none
 is-none : (most : ℕ) (w : List ℕ) → most < 4_294_967_296 → orNone (numberOf most w) ≡ 4_294_967_296 → numberOf most w ≡ none
 unfolding orNone
 is-none most w l h = go (numberOf most w) refl

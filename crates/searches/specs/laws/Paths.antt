@@ -31,7 +31,7 @@ use Rattle.searches.specs.Searches.{linksAt, leadsOver}
 use Rattle.plan_memory.specs.laws.PathRows.{path-order, to-order, path-at, links-most, initiator-byte, target-byte, count-byte, link-bytes}
 
 -- the part that is lent for path number k
-pub links-part : (paths : List ℕ) (k size : ℕ) → size ≡ min 8 (getD paths (k * 11 + 2) 0) → take ((k * 11 + 3 + size) - (k * 11 + 3)) (drop (k * 11 + 3) paths) ≡ linksAt paths k
+pub links-part : (paths : List ℕ) (k size : ℕ) → size ≡ min (getD paths (k * 11 + 2) 0) 8 → take ((k * 11 + 3 + size) - (k * 11 + 3)) (drop (k * 11 + 3) paths) ≡ linksAt paths k
 unfolding linksAt
 links-part paths k size e = let n : (k * 11 + 3 + size) - (k * 11 + 3) ≡ min 8 (getD paths (k * 11 + 2) 0) = omega arith in rw n
 

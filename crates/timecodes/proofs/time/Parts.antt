@@ -16,7 +16,7 @@ use Rattle.box_rules.specs.Records.{Record, recordBytes, watchdogRecord, sequen
 use Rattle.box_rules.specs.Step.{ticked}
 use Rattle.box_rules.specs.laws.Counts.{no-visit}
 use Rattle.initiators.specs.Run.{runOf}
-use Rattle.timecodes.proofs.visit.Sweep.{sideThen, recordsThen}
+use Rattle.visits.specs.Then.{sideThen, recordsThen}
 
 module _ (b : Box) (w : Watchdog) (byte clock : ℕ) (q : Bool) (seq : q ≡ inSequence (b .last) byte) where
   abbrev p : Plan

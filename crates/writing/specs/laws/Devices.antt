@@ -22,7 +22,7 @@ use Rattle.plan_rules.specs.Canon.{canonical}
 use Rattle.plan_rules.specs.Good.{Good, sameDeviceNumber}
 use Rattle.plan_rules.specs.laws.InRange.{device-ranged}
 use Rattle.plan_memory.specs.Take.{deviceItem}
-use Rattle.writing.specs.Out.{deviceBytes}
+use Rattle.writing_items.specs.Out.{deviceBytes}
 
 -- the field of a device
 unfoldable deviceField : Device → List ℕ

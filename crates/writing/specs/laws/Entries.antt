@@ -27,7 +27,7 @@ use Rattle.plan_rules.specs.laws.GoodSound.{good-entry}
 use Rattle.plan_rules.specs.laws.Entries.{entry-initiator}
 use Rattle.plan_memory.specs.Memory.{rowsOf, ofRow, spanOf, spansOf, aimOf, aimsOf}
 use Rattle.plan_memory.specs.laws.InRows.{span-cell, aim-cell}
-use Rattle.writing.specs.Out.{rises, entryBytes}
+use Rattle.writing_rows.specs.Out.{rises, entryBytes}
 
 -- the field of an entry, its targets rising
 unfoldable entryField : Entry → List ℕ

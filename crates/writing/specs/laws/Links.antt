@@ -20,7 +20,7 @@ use Rattle.plan_rules.specs.Meaning.{isLink}
 use Rattle.plan_rules.specs.Canon.{smallFirst, canonical}
 use Rattle.plan_rules.specs.Good.{Good, sameLinkNumber}
 use Rattle.plan_memory.specs.Memory.{endOf, endsOf}
-use Rattle.writing.specs.Out.{linkBytes}
+use Rattle.writing_items.specs.Out.{linkBytes}
 
 -- the field of a link, its smaller device first
 unfoldable linkField : Link → List ℕ

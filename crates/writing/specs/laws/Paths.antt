@@ -19,7 +19,7 @@ use Rattle.plan_rules.specs.Good.{Good}
 use Rattle.plan_rules.specs.laws.Items.{path-in}
 use Rattle.plan_rules.specs.laws.Lengths.{path-length}
 use Rattle.plan_memory.specs.Memory.{pathRow, pathsInOrder, pathsOf}
-use Rattle.writing.specs.Out.{pathLinks, pathBytes}
+use Rattle.writing_rows.specs.Out.{pathLinks, pathBytes}
 
 -- the field of a path
 unfoldable pathField : Route → List ℕ

@@ -22,7 +22,8 @@ use Rattle.plan_rules.specs.laws.Copies.{no-room, answers-size, puts-bytes}
 use Rattle.plan_memory.specs.Memory.{setsOf, endsOf, rowsOf, pathsOf, spansOf, aimsOf, leastOf, greatestOf, numbersWith, numbersOf}
 use Rattle.plan_memory.specs.Held.{Held, HoldsPlan}
 use Rattle.plan_memory.specs.laws.BlankMemory.{good-not-blank}
-use Rattle.writing.specs.Out.{timingBytes, outBytes}
+use Rattle.writing.specs.Out.{outBytes}
+use Rattle.writing_items.specs.Out.{timingBytes}
 use Rattle.writing.specs.laws.Devices.{devices-out}
 use Rattle.writing.specs.laws.Links.{links-out}
 use Rattle.writing.specs.laws.Paths.{paths-out}

@@ -1,5 +1,5 @@
 -- `has_live` meets its contract: a live transaction's time is never 0. Assumes nothing.
-use Rattle.initiators.proofs.row.Rows.{live-is}
+use Rattle.initiators.specs.laws.RowWords.{live-is}
 use borrow.Author.Needs.{needs}
 use Rattle.initiators.proofs.row.has_live.Statement.{statement}
 use Rattle.initiators.proofs.row.has_live.Tie as tie

@@ -1,5 +1,5 @@
 -- `live_length` meets its contract: the word comes apart again. Assumes nothing.
-use Rattle.initiators.proofs.row.Rows.{live-parts}
+use Rattle.initiators.specs.laws.RowWords.{live-parts}
 use borrow.Author.Needs.{needs}
 use Rattle.initiators.proofs.row.live_length.Statement.{statement}
 use Rattle.initiators.proofs.row.live_length.Tie as tie

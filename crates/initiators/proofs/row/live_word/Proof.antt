@@ -1,5 +1,5 @@
 -- `live_word` meets its contract. Assumes nothing.
-use Rattle.initiators.proofs.row.Rows.{live-word-at}
+use Rattle.initiators.specs.laws.RowWords.{live-word-at}
 use borrow.Author.Needs.{needs}
 use Rattle.initiators.proofs.row.live_word.Statement.{statement}
 use Rattle.initiators.proofs.row.live_word.Tie as tie

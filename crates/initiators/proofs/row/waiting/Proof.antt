@@ -1,5 +1,5 @@
 -- `waiting` meets its contract. Assumes nothing.
-use Rattle.initiators.proofs.row.Rows.{count-at}
+use Rattle.initiators.specs.laws.RowWords.{count-at}
 use borrow.Author.Needs.{needs}
 use Rattle.initiators.proofs.row.waiting.Statement.{statement}
 use Rattle.initiators.proofs.row.waiting.Tie as tie

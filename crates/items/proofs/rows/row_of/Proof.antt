@@ -18,8 +18,8 @@ Inv-loop rows count i most k₀ k =
 abbrev μ-loop : tie.MeasureT-loop
 μ-loop rows count i most k₀ k = most - k
 
-at-most-8-requires : tie.Need-at-most-8-requires Inv-loop μ-loop
-at-most-8-requires c κs = search needs
+at-most-requires : tie.Need-at-most-requires Inv-loop μ-loop
+at-most-requires c κs = search needs
 
 loop-holds : tie.Need-loop-holds Inv-loop μ-loop
 loop-holds c = let a = c .before .args in ap (λ (m : ℕ). firstFrom m 0 (isRow (a .rows .now) (a .i))) (omega arith)
@@ -31,10 +31,10 @@ returns : tie.Need-returns Inv-loop μ-loop
 returns c =
     let l = c .before .before .before in
     let a = l .before .before .args in
-    let most = l .before .at-most-8 .result in
+    let most = l .before .at-most .result in
     let k = l .loop .k in
     sym (l .loop .inv ∙ first-here (isRow (a .rows .now) (a .i)) most k (search needs) (eq-eqb (a .i) _ (sym (c .if1 .taken))))
-    ∙ ap (λ (m : ℕ). firstFrom m 0 (isRow (a .rows .now) (a .i))) (l .before .at-most-8 .ensures)
+    ∙ ap (λ (m : ℕ). firstFrom m 0 (isRow (a .rows .now) (a .i))) (l .before .at-most .ensures)
 
 add-k : tie.Need-add-k Inv-loop μ-loop
 add-k c = search needs
@@ -46,7 +46,7 @@ loop-again : tie.Need-loop-again Inv-loop μ-loop
 loop-again c =
     let l = c .before .before .before in
     let a = l .before .before .args in
-    let most = l .before .at-most-8 .result in
+    let most = l .before .at-most .result in
     let k = l .loop .k in
     l .loop .inv ∙ first-next (isRow (a .rows .now) (a .i)) most k (search needs) (ne-eqb (a .i) _ (λ e. c .if1 .left (sym e)))
 
@@ -54,10 +54,10 @@ returns-2 : tie.Need-returns-2 Inv-loop μ-loop
 returns-2 c =
     let l = c .before in
     let a = l .before .before .args in
-    let most = l .before .at-most-8 .result in
+    let most = l .before .at-most .result in
     let k = l .loop .k in
     sym (l .loop .inv ∙ first-end (isRow (a .rows .now) (a .i)) most k (search needs))
-    ∙ ap (λ (m : ℕ). firstFrom m 0 (isRow (a .rows .now) (a .i))) (l .before .at-most-8 .ensures)
+    ∙ ap (λ (m : ℕ). firstFrom m 0 (isRow (a .rows .now) (a .i))) (l .before .at-most .ensures)
 
 pub row-of-spec : {M : Type 1} → statement M
-row-of-spec = tie.close (tie.spec Inv-loop μ-loop at-most-8-requires loop-holds element-copy-out-b returns add-k loop-less loop-again returns-2)
+row-of-spec = tie.close (tie.spec Inv-loop μ-loop at-most-requires loop-holds element-copy-out-b returns add-k loop-less loop-again returns-2)

@@ -4,7 +4,7 @@ use borrow.Author.Needs.{needs}
 use borrow.Fn.Kinds.{In}
 use borrow.Fn.PlainCycle.{Measures, is, falls, and}
 use Rattle.lists.specs.laws.Puts.{puts-then}
-use Rattle.line.proofs.print.Decimal.{decimal-small, decimal-more}
+use Rattle.line.specs.laws.Decimal.{decimal-small, decimal-more}
 use Rattle.line.proofs.print.put.Reads.{Asked, Learnt}
 use Rattle.line.proofs.print.put_decimal.Reads.{Pre, Post}
 use Rattle.line.proofs.print.put_decimal.Kinds.{ps}

@@ -5,7 +5,7 @@ use lib.ListN.{length-set}
 use borrow.Author.Needs.{needs}
 use Rattle.lists.specs.laws.Stores.{put-one, put-then}
 use Rattle.plan_rules.specs.Print.{spaced}
-use Rattle.line.proofs.print.Decimal.{decimal-length}
+use Rattle.line.specs.laws.Decimal.{decimal-length}
 use Rattle.line.proofs.print.put_number.Statement.{statement}
 use Rattle.line.proofs.print.put_number.Tie as tie
 

@@ -4,14 +4,14 @@ use Rattle.plan_view.proofs.row.Laws.{count-told}
 use Rattle.plan_view.proofs.row.count_of.Statement.{statement}
 use Rattle.plan_view.proofs.row.count_of.Tie as tie
 
-element-copy-out-at-most-8 : tie.Need-element-copy-out-at-most-8
-element-copy-out-at-most-8 c = search needs
+element-copy-out-at-most : tie.Need-element-copy-out-at-most
+element-copy-out-at-most c = search needs
 
-at-most-8-requires : tie.Need-at-most-8-requires
-at-most-8-requires c κs = search needs
+at-most-requires : tie.Need-at-most-requires
+at-most-requires c κs = search needs
 
 returns : tie.Need-returns
-returns c size p ok ns = count-told p ok size (c .before .before .args .numbers .now) ns (c .at-most-8 .result) (c .at-most-8 .ensures)
+returns c size p ok ns = count-told p ok size (c .before .before .args .numbers .now) ns (c .at-most .result) (c .at-most .ensures)
 
 pub count-of-spec : {M : Type 1} → statement M
-count-of-spec = tie.close (tie.spec element-copy-out-at-most-8 at-most-8-requires returns)
+count-of-spec = tie.close (tie.spec element-copy-out-at-most at-most-requires returns)

@@ -1,5 +1,7 @@
 -- `searches::clash::path_links` meets its contract. Assumes nothing.
 use mathlib.Core.Path.{ap, _∙_}
+use Prim.Native.Nat.{_+_, _*_}
+use native.Mathlib.Omega.{arith}
 use borrow.Author.Needs.{needs}
 use Rattle.sets.specs.Set.{listed}
 use Rattle.searches.specs.laws.Paths.{links-part}
@@ -12,17 +14,20 @@ mul-start c = search needs
 add-start : tie.Need-add-start
 add-start c = search needs
 
-mul-up-to-8 : tie.Need-mul-up-to-8
-mul-up-to-8 c = search needs
+mul-at-most : tie.Need-mul-at-most
+mul-at-most c = search needs
 
-add-up-to-8 : tie.Need-add-up-to-8
-add-up-to-8 c = search needs
+add-at-most : tie.Need-add-at-most
+add-at-most c = search needs
 
-shared-slice-read-up-to-8 : tie.Need-shared-slice-read-up-to-8
-shared-slice-read-up-to-8 c = search needs
+shared-slice-read-at-most : tie.Need-shared-slice-read-at-most
+shared-slice-read-at-most c = search needs
 
-up-to-8-requires : tie.Need-up-to-8-requires
-up-to-8-requires c κs = search needs
+cast-at-most : tie.Need-cast-at-most
+cast-at-most c = omega (arith, c .shared-slice-known2 .given (c .before .before .args .k * 11 + 2))
+
+at-most-requires : tie.Need-at-most-requires
+at-most-requires c κs = search needs
 
 add-end : tie.Need-add-end
 add-end c = search needs
@@ -42,7 +47,7 @@ set-of-requires c κs = search needs
 returns : tie.Need-returns
 returns c l =
     let s = c .before .before .before .before .before .args in
-    c .set-of .ensures l ∙ ap (λ xs. listed xs l) (links-part (s .paths .now) (s .k) (c .before .before .up-to-8 .result) (c .before .before .up-to-8 .ensures))
+    c .set-of .ensures l ∙ ap (λ xs. listed xs l) (links-part (s .paths .now) (s .k) (c .before .before .at-most .result) (c .before .before .at-most .ensures))
 
 pub path-links-spec : {M : Type 1} → statement M
 path-links-spec =
@@ -50,10 +55,11 @@ path-links-spec =
     (tie.spec
     mul-start
     add-start
-    mul-up-to-8
-    add-up-to-8
-    shared-slice-read-up-to-8
-    up-to-8-requires
+    mul-at-most
+    add-at-most
+    shared-slice-read-at-most
+    cast-at-most
+    at-most-requires
     add-end
     sub-set-of
     part-set-of-start

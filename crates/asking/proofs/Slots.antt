@@ -1,0 +1,89 @@
+-- The entries of a row, slot by slot: none met so far permits the transaction, and what follows once one does or all are met.
+use mathlib.Core.Path.{_≡_, refl, sym, ap, _∙_}
+use mathlib.Core.Logic.{by-cases}
+use mathlib.Core.List.{List, [], List·Memᴰ}
+use mathlib.Core.Option.{Option, none, some}
+use mathlib.Core.Bool.{Bool, true, false, _&&_}
+use Prim.Native.Nat.{ℕ, _+_, _≤_, _<_}
+use native.Mathlib.Decide.{decLt}
+use native.Mathlib.Omega.{arith}
+use lib.Dec.{eqb}
+use borrow.Author.Tests.{eqb-true, eq-eqb}
+use Rattle.lists.specs.Search.{any, isIn}
+use Rattle.lists.specs.Place.{atPlace}
+use Rattle.lists.specs.laws.Bools.{not-both, true-both}
+use Rattle.lists.specs.laws.Search.{any-intro, any-none}
+use Rattle.sets.specs.Set.{member}
+use Rattle.sets.specs.Laws.{member-empty}
+use Rattle.plan_rules.specs.Plan.{Plan, Entry}
+use Rattle.plan_rules.specs.Meaning.{initiators, entryAt, permits}
+use Rattle.plan_rules.specs.laws.Sound.{Sound}
+use Rattle.plan_rules.specs.laws.Runs.{entry-at, found-at}
+use Rattle.plan_memory.specs.Memory.{ofRow, spanOf, spansOf, aimOf, aimsOf}
+use Rattle.plan_view.specs.View.{Tells}
+use Rattle.box_rules.specs.Refuse.{mayStart}
+use Rattle.asking.specs.Sides.{Tried}
+use Rattle.plan_view.specs.laws.Entries.{spanRead, targetsRead, entry-told}
+
+-- what is read at a slot, and the answer for it
+abbrev pub Spanned : List ℕ → ℕ → ℕ → ℕ → Type 0
+Spanned spans row slot span = (p : Plan) → Sound p → spans ≡ spansOf p → span ≡ spanRead p row slot
+
+abbrev pub Aimed : List ℕ → ℕ → ℕ → ℕ → Type 0
+Aimed aims row slot targets = (p : Plan) → Sound p → aims ≡ aimsOf p → targets ≡ targetsRead p row slot
+
+abbrev pub Permitted : ℕ → ℕ → ℕ → ℕ → Bool → Type 0
+Permitted targets span t n x = (p : Plan) (e : Entry) → Tells targets span e → x ≡ permits p e t n
+
+module _ (spans aims : List ℕ) (row t n : ℕ) where
+  -- no entry at a slot before this one permits the transaction
+  abbrev pub Barred : ℕ → Type 0
+  Barred slot =
+      (p : Plan) (i : ℕ) → Sound p → spans ≡ spansOf p → aims ≡ aimsOf p → atPlace row (initiators p) ≡ some i
+      → (v : ℕ) (e : Entry) → v < slot → entryAt (p .entries) i v ≡ some e → permits p e t n ≡ false
+
+  pub slots-begin : Barred 0
+  slots-begin p i ok es ea at v e h = absurd (omega arith)
+
+  module _ (slot targets span : ℕ) (x : Bool) (spanned : Spanned spans row slot span) (aimed : Aimed aims row slot targets) (told : Permitted targets span t n x) where
+    module _ (p : Plan) (i : ℕ) (ok : Sound p) (es : spans ≡ spansOf p) (ea : aims ≡ aimsOf p) (at : atPlace row (initiators p) ≡ some i) where
+      some-here : (e : Entry) → entryAt (p .entries) i slot ≡ some e → x ≡ permits p e t n
+      some-here e h = told p e ((entry-told p ok row i at slot span (spanned p ok es) e h targets (aimed p ok ea)) .1)
+
+      -- the empty set of targets, read where no entry stands, permits nothing
+      none-here : entryAt (p .entries) i slot ≡ none → x ≡ false
+      unfolding permits any isIn ofRow spanOf aimOf
+      none-here h = told p (record { initiator = 0; slot = 0; span = 0; targets = [] }) (record { targets = empty; span = sym (spanned p ok es ∙ here spanOf) })
+        where
+          here : (f : Option Entry → ℕ) → ofRow p row (λ (j : ℕ). f (entryAt (p .entries) j slot)) ≡ f none
+          here f = rw (at, ofRow, h)
+
+          empty : (u : ℕ) → isIn u [] ≡ member u targets
+          empty u = sym (ap (member u) (aimed p ok ea ∙ here aimOf) ∙ member-empty u)
+
+    pub slots-next : Barred slot → x ≡ false → Barred (slot + 1)
+    slots-next before no′ p i ok es ea at v e h is =
+        by-cases (decLt v slot) (λ l. before p i ok es ea at v e l is) (λ l. here (omega arith))
+      where
+        here : v ≡ slot → permits p e t n ≡ false
+        here z = sym (some-here p i ok es ea at e (rw (← z) is)) ∙ no′
+
+    pub slots-met : x ≡ true → Tried spans aims row t n true
+    unfolding mayStart
+    slots-met yes′ p i ok es ea at = go (entryAt (p .entries) i slot) refl
+      where
+        go : (o : Option Entry) → entryAt (p .entries) i slot ≡ o → true ≡ any (λ (e : Entry). eqb i (e .initiator) && permits p e t n) (p .entries)
+        go none h = not-both yes′ (none-here p i ok es ea at h)
+        go (some e) h =
+            let s = entry-at (p .entries) i slot e h in
+            sym (any-intro _ (p .entries) e (s .has) (true-both (eq-eqb i (e .initiator) (sym (s .own))) (sym (some-here p i ok es ea at e h) ∙ yes′)))
+
+  pub slots-done : (slot : ℕ) → 64 ≤ slot → Barred slot → Tried spans aims row t n false
+  unfolding mayStart
+  slots-done slot all before p i ok es ea at = sym (any-none _ (p .entries) (λ e m. go e m (eqb i (e .initiator)) refl))
+    where
+      go : (e : Entry) → List·Memᴰ e (p .entries) → (x : Bool) → eqb i (e .initiator) ≡ x → x && permits p e t n ≡ false
+      go e m true h =
+          let z = eqb-true i (e .initiator) h in
+          before p i ok es ea at (e .slot) e (omega (arith, ok .slots e m)) (rw z (found-at p ok e m))
+      go e m false h = refl

@@ -1,0 +1,33 @@
+-- What a request does to the side of its initiator once the plan permits it, and whether it does.
+use Prim.Native.Nat.{ℕ}
+use mathlib.Core.Bool.{Bool, cond}
+use lib.ListN.{length}
+use lib.Dec.{leb}
+use Rattle.box_rules.specs.declared.Answer.{Answer}
+use Rattle.box_rules.specs.declared.Answer.the-variants.{Refused, Joined}
+use Rattle.box_rules.specs.State.{Side}
+use Rattle.box_rules.specs.Refuse.{placesInLine}
+use Rattle.box_rules.specs.Turn.{join}
+use mathlib.Core.Path.{_≡_}
+use mathlib.Core.List.{List}
+use mathlib.Core.Option.{some}
+use Rattle.lists.specs.Place.{atPlace}
+use Rattle.plan_rules.specs.Plan.{Plan}
+use Rattle.plan_rules.specs.Meaning.{initiators}
+use Rattle.plan_rules.specs.laws.Sound.{Sound}
+use Rattle.plan_memory.specs.Memory.{spansOf, aimsOf}
+use Rattle.box_rules.specs.Refuse.{mayStart}
+
+-- r tells whether some entry of the row permits the target t with the length n
+abbrev pub Tried : (spans aims : List ℕ) (row t n : ℕ) → Bool → Type 0
+Tried spans aims row t n r = (p : Plan) (i : ℕ) → Sound p → spans ≡ spansOf p → aims ≡ aimsOf p → atPlace row (initiators p) ≡ some i → r ≡ mayStart p (p .entries) i t n
+
+-- a request that the plan permits: 26, or its number
+unfoldable pub isFull : Side → Bool
+isFull s = leb placesInLine (length (s .line))
+
+unfoldable pub askedAnswer : Side → Answer
+askedAnswer s = cond (isFull s) (Refused 26) (Joined (s .next))
+
+unfoldable pub askedSide : ℕ → ℕ → ℕ → Side → Side
+askedSide t k n s = cond (isFull s) s (join t k n s)

@@ -1,0 +1,5 @@
+-- Laws of lines that are answered.
+pub mod Rooms
+pub mod Loads
+pub mod Told
+pub mod Replies

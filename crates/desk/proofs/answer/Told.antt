@@ -1,0 +1,45 @@
+-- An event and writing out answered. Assumes nothing.
+use mathlib.Core.Path.{_≡_, refl, sym, ap, _∙_}
+use mathlib.Core.List.{List, _++_}
+use mathlib.Core.Option.{Option}
+use Prim.Native.Nat.{ℕ, _≤_}
+use lib.ListN.{length, take, drop, replicate}
+use Rattle.plan_rules.specs.Plan.{Plan}
+use Rattle.plan_rules.specs.declared.Copied.{Copied}
+use Rattle.plan_rules.specs.Copy.{sized, copyAnswer, copied}
+use Rattle.box_rules.specs.declared.Event.{Event}
+use Rattle.box_rules.specs.declared.Answer.{Answer}
+use Rattle.box_rules.specs.declared.Watchdog.{Watchdog}
+use Rattle.box_rules.specs.Answer.{Values, values}
+use Rattle.events.specs.Values.{listed}
+use Rattle.calls.specs.Calls.{Memory, memory, withRun, Steps, StepLeaves}
+use Rattle.desk.specs.Texts.{eventLine, outLine, Prints}
+use Rattle.desk.specs.Replay.{kept, Stepped, HeldIn, WrittenOut, Answers}
+use Rattle.desk.proofs.answer.Rooms.{zeros, lent-size, back}
+
+pub step-answers : {e : Event} {room : ℕ} {b x vs sets ends rows reach paths spans aims numbers run last run′ last′ out out′ : List ℕ} {w w′ : Watchdog} {a : Answer} {end : ℕ}
+    → b ≡ replicate 4_096 0 → room ≤ 4_096 → length x ≡ length (take room b)
+    → Steps rows spans aims numbers run last w (take room b) e a run′ last′ w′ x
+    → vs ≡ listed (values a)
+    → ((v : Values) → vs ≡ listed v → Prints (eventLine e v (take room (x ++ drop room b))) out out′ end)
+    → Answers (Stepped e room (kept (memory sets ends rows reach paths spans aims numbers run last) w) (kept (memory sets ends rows reach paths spans aims numbers run′ last′) w′)) out out′ end
+unfolding withRun
+step-answers {e} {room} {b} {x} {a} z h k steps listed prints = record {
+  printed = eventLine e (values a) x;
+  told = record { answer = a; records = x; leaves = record { plan = refl; does = rw (zeros 4_096 z h) at steps }; prints = refl };
+  prints = rw (back 4_096 z h x k) at (prints (values a) listed);
+}
+
+pub out-answers : {room : ℕ} {b x : List ℕ} (sets ends rows reach paths spans aims numbers run last : List ℕ) {out out′ : List ℕ} {c : Copied} {end : ℕ}
+    → b ≡ replicate 32_768 0 → room ≤ 32_768 → length x ≡ length (take room b)
+    → ((o : Option Plan) → HeldIn (memory sets ends rows reach paths spans aims numbers run last) o → (c ≡ copyAnswer (length (take room b)) o) × (x ≡ copied o (take room b)))
+    → Prints (outLine (sized c) (take room (x ++ drop room b))) out out′ end
+    → Answers (WrittenOut room (memory sets ends rows reach paths spans aims numbers run last)) out out′ end
+out-answers {room} {b} {x} sets ends rows reach paths spans aims numbers run last {c} z h k f prints = record {
+  printed = outLine (sized c) x;
+  told = λ o held. by o (f o held);
+  prints = rw (back 32_768 z h x k) at prints;
+}
+  where
+    by : (o : Option Plan) → (c ≡ copyAnswer (length (take room b)) o) × (x ≡ copied o (take room b)) → outLine (sized c) x ≡ outLine (sized (copyAnswer room o)) (copied o (replicate room 0))
+    by o g = rw (g .0, g .1, ← lent-size 32_768 z h, zeros 32_768 z h)

@@ -1,0 +1,4 @@
+-- Laws of the lines that are put.
+pub mod Printed
+pub mod Events
+pub mod Copies

@@ -1,0 +1,343 @@
+// One line of a script answered: the box and the five numbers go on from command to command.
+ghost use mathlib.Core.Path.{_≡_};
+ghost use Prim.Native.Nat.{ℕ, _≤_};
+ghost use lib.ListN.{replicate};
+ghost use mathlib.Core.List.{List};
+ghost use Rattle.calls.specs.Calls.{memory};
+ghost use Rattle.script.specs.Script.{decoded, commandOf};
+ghost use Rattle.desk.specs.Replay.{kept, Loaded, Stepped, WrittenOut, Replied, Answers};
+use crate::texts::put_copied;
+use crate::texts::put_error;
+use crate::texts::put_event;
+use crate::texts::put_watchdog;
+use crate::texts::put_word;
+use box_rules::Event;
+use box_rules::Watchdog;
+use calls::clear::clear_with;
+use calls::load::load_with;
+use events::step::step_with;
+use events::values::values_of;
+use line::print::print_verdict;
+use line::print::put;
+use script::command::Command;
+use script::command::command_of;
+use script::hex::decode;
+
+// The length of what is to be printed, 0 for nothing, and the five numbers after it.
+pub struct Answered {
+    pub end: usize,
+    pub watchdog: Watchdog,
+}
+
+// Room for a load's file, for the records of a time-code and for a plan written out, all 0.
+fn file_room() -> [u8; 16400]
+    ensures { λ r. ⌜ r ≡ replicate 16_400 0 ⌝ }
+{
+    [0; 16400]
+}
+
+fn records_room() -> [u8; 4096]
+    ensures { λ r. ⌜ r ≡ replicate 4_096 0 ⌝ }
+{
+    [0; 4096]
+}
+
+fn plan_room() -> [u8; 32768]
+    ensures { λ r. ⌜ r ≡ replicate 32_768 0 ⌝ }
+{
+    [0; 32768]
+}
+
+// The load of a byte string.
+fn load(
+    word: &[u8],
+    sets: &mut [u64; 3],
+    ends: &mut [u8; 128],
+    rows: &mut [u8; 8],
+    reach: &mut [u64; 8],
+    paths: &mut [u8; 1408],
+    spans: &mut [u8; 512],
+    aims: &mut [u64; 512],
+    numbers: &mut [u32; 6],
+    run: &mut [u64; 96],
+    last: &mut [u8; 1],
+    out: &mut [u8; 65600],
+) -> Answered
+    ensures { λ r. ⌜ Answers (Loaded (decoded 16_400 (now (word .entry))) (kept (memory (now (sets .exit)) (now (ends .exit)) (now (rows .exit)) (now (reach .exit)) (now (paths .exit)) (now (spans .exit)) (now (aims .exit)) (now (numbers .exit)) (now (run .exit)) (now (last .exit))) (r .watchdog))) (now (out .entry)) (now (out .exit)) (r .end) ⌝ }
+{
+    let mut file = file_room();
+    let size = decode(word, &mut file);
+    let done = load_with(
+        &file[..size],
+        sets,
+        ends,
+        rows,
+        reach,
+        paths,
+        spans,
+        aims,
+        numbers,
+        run,
+        last,
+    );
+    let verdict = done.verdict;
+    let watchdog = done.watchdog;
+    let mut line = [0u8; 40];
+    let n = print_verdict(&mut line, verdict);
+    let end = put(out, 0, &line[..n]);
+    Answered { end, watchdog }
+}
+
+// An event with a record buffer of some room.
+fn step(
+    rows: &[u8; 8],
+    spans: &[u8; 512],
+    aims: &[u64; 512],
+    numbers: &[u32; 6],
+    run: &mut [u64; 96],
+    last: &mut [u8; 1],
+    watchdog: Watchdog,
+    event: Event,
+    room: usize,
+    out: &mut [u8; 65600],
+) -> Answered
+    requires { ⌜ room ≤ 4_096 ⌝ }
+    ensures { λ r. ⌜ ((sets ends reach paths : List ℕ) → Answers (Stepped event room
+        (kept (memory sets ends (now (rows .entry)) reach paths (now (spans .entry)) (now (aims .entry)) (now (numbers .entry)) (now (run .entry)) (now (last .entry))) watchdog)
+        (kept (memory sets ends (now (rows .entry)) reach paths (now (spans .entry)) (now (aims .entry)) (now (numbers .entry)) (now (run .exit)) (now (last .exit))) (r .watchdog)))
+        (now (out .entry)) (now (out .exit)) (r .end)) ⌝ }
+{
+    let mut records = records_room();
+    let done = step_with(
+        rows,
+        spans,
+        aims,
+        numbers,
+        run,
+        last,
+        watchdog,
+        event,
+        &mut records[..room],
+    );
+    let answer = done.answer;
+    let after = done.watchdog;
+    let values = values_of(answer);
+    let end = put_event(out, event, &values, &records[..room]);
+    Answered {
+        end,
+        watchdog: after,
+    }
+}
+
+// The plan written out into some room.
+fn write_out(
+    sets: &[u64; 3],
+    ends: &[u8; 128],
+    rows: &[u8; 8],
+    reach: &[u64; 8],
+    paths: &[u8; 1408],
+    spans: &[u8; 512],
+    aims: &[u64; 512],
+    numbers: &[u32; 6],
+    room: usize,
+    out: &mut [u8; 65600],
+) -> usize
+    requires { ⌜ room ≤ 32_768 ⌝ }
+    ensures { λ r. ⌜ ((run last : List ℕ) → Answers (WrittenOut room
+        (memory (now (sets .entry)) (now (ends .entry)) (now (rows .entry)) (now (reach .entry)) (now (paths .entry)) (now (spans .entry)) (now (aims .entry)) (now (numbers .entry)) run last))
+        (now (out .entry)) (now (out .exit)) r) ⌝ }
+{
+    let mut buffer = plan_room();
+    let copied = writing::out::write_out(
+        sets,
+        ends,
+        rows,
+        reach,
+        paths,
+        spans,
+        aims,
+        numbers,
+        &mut buffer[..room],
+    );
+    put_copied(out, copied, &buffer[..room])
+}
+
+// One line of a script: what it prints stands at the front of out, and the box and the five numbers are those after it.
+// A caller's five numbers are kept as given, so that a number other than 0 stays what it was: "not 0 is yes".
+pub fn answer(
+    line: &[u8],
+    number: u64,
+    sets: &mut [u64; 3],
+    ends: &mut [u8; 128],
+    rows: &mut [u8; 8],
+    reach: &mut [u64; 8],
+    paths: &mut [u8; 1408],
+    spans: &mut [u8; 512],
+    aims: &mut [u64; 512],
+    numbers: &mut [u32; 6],
+    run: &mut [u64; 96],
+    last: &mut [u8; 1],
+    watchdog: Watchdog,
+    out: &mut [u8; 65600],
+) -> Answered
+    ensures { λ r. ⌜ Answers (Replied (commandOf (now (line .entry))) (now (line .entry)) number (kept (memory (now (sets .entry)) (now (ends .entry)) (now (rows .entry)) (now (reach .entry)) (now (paths .entry)) (now (spans .entry)) (now (aims .entry)) (now (numbers .entry)) (now (run .entry)) (now (last .entry))) watchdog) (kept (memory (now (sets .exit)) (now (ends .exit)) (now (rows .exit)) (now (reach .exit)) (now (paths .exit)) (now (spans .exit)) (now (aims .exit)) (now (numbers .exit)) (now (run .exit)) (now (last .exit))) (r .watchdog))) (now (out .entry)) (now (out .exit)) (r .end) ⌝ }
+{
+    let command = command_of(line);
+    match command {
+        Command::Skip => Answered { end: 0, watchdog },
+        Command::Bad => {
+            let end = put_error(out, number);
+            Answered { end, watchdog }
+        }
+        Command::Load { at } => load(
+            &line[at..],
+            sets,
+            ends,
+            rows,
+            reach,
+            paths,
+            spans,
+            aims,
+            numbers,
+            run,
+            last,
+            out,
+        ),
+        Command::Clear => {
+            let cleared = clear_with(
+                sets,
+                ends,
+                rows,
+                reach,
+                paths,
+                spans,
+                aims,
+                numbers,
+                run,
+                last,
+            );
+            let end = put_word(out, b"CLEARED");
+            Answered {
+                end,
+                watchdog: cleared,
+            }
+        }
+        Command::TimeCode { byte, clock, room } => {
+            let event = Event::TimeCode { byte, clock };
+            step(
+                rows,
+                spans,
+                aims,
+                numbers,
+                run,
+                last,
+                watchdog,
+                event,
+                room as usize,
+                out,
+            )
+        }
+        Command::Request {
+            initiator,
+            target,
+            kind,
+            length,
+        } => {
+            let event = Event::Request {
+                initiator,
+                target,
+                kind,
+                length,
+            };
+            step(
+                rows,
+                spans,
+                aims,
+                numbers,
+                run,
+                last,
+                watchdog,
+                event,
+                0,
+                out,
+            )
+        }
+        Command::Reply {
+            initiator,
+            number: transaction,
+            status,
+        } => {
+            let event = Event::Reply {
+                initiator,
+                number: transaction,
+                status,
+            };
+            step(
+                rows,
+                spans,
+                aims,
+                numbers,
+                run,
+                last,
+                watchdog,
+                event,
+                0,
+                out,
+            )
+        }
+        Command::Reading { clock } => {
+            let event = Event::Reading { clock };
+            step(
+                rows,
+                spans,
+                aims,
+                numbers,
+                run,
+                last,
+                watchdog,
+                event,
+                0,
+                out,
+            )
+        }
+        Command::Out { room } => {
+            let end = write_out(
+                sets,
+                ends,
+                rows,
+                reach,
+                paths,
+                spans,
+                aims,
+                numbers,
+                room as usize,
+                out,
+            );
+            Answered { end, watchdog }
+        }
+        Command::Watchdog => {
+            let end = put_watchdog(out, watchdog);
+            Answered { end, watchdog }
+        }
+        Command::SetWatchdog {
+            last: clock,
+            seen,
+            reported,
+            least,
+            greatest,
+        } => {
+            let given = Watchdog {
+                last: clock,
+                seen,
+                reported,
+                least,
+                greatest,
+            };
+            let end = put_word(out, b"OK");
+            Answered {
+                end,
+                watchdog: given,
+            }
+        }
+    }
+}

@@ -1,0 +1,59 @@
+// A reply of an initiator: refusals 27 and 28, or the end of the live transaction with the class of its status.
+ghost use mathlib.Core.Path.{_≡_};
+ghost use Prim.Native.Nat.{ℕ, _<_};
+ghost use lib.ListN.{length};
+ghost use Rattle.box_rules.specs.State.{Side};
+ghost use Rattle.box_rules.specs.Turn.{class};
+ghost use Rattle.box_rules.specs.laws.Fit.{FitSide};
+ghost use Rattle.initiators.specs.Run.{rowOf, changed, rowsWith};
+ghost use Rattle.initiators.specs.Row.{IsRow};
+ghost use Rattle.ending.specs.Sides.{repliedAnswer, repliedSide};
+use box_rules::Answer;
+use initiators::row::finish_row;
+use initiators::row::has_live;
+use initiators::row::live_length;
+use initiators::row::live_number;
+use initiators::row::live_target;
+
+// "0 success, 1 to 7 and 9 to 12 errors, 8 and 13 to 255 reserved"
+pub fn class_of(status: u8) -> u8
+    ensures { λ r. ⌜ r ≡ class status ⌝ }
+{
+    match status {
+        0 => 0,
+        1..=7 | 9..=12 => 1,
+        _ => 2,
+    }
+}
+
+// A reply of an initiator: refusal 27 or 28, or it ends the live transaction.
+fn end_row(row: &mut [u64], number: u16, status: u8) -> Answer
+    requires { ⌜ IsRow (now row) ⌝ }
+    ensures { λ r. ⌜ ((s : Side) → FitSide s → now (row .entry) ≡ rowOf s → (r ≡ repliedAnswer number status s) × (now (row .exit) ≡ rowOf (repliedSide number s))) ⌝ }
+{
+    if !has_live(row) {
+        return Answer::Refused { number: 27 };
+    }
+    if live_number(row) != number {
+        return Answer::Refused { number: 28 };
+    }
+    let target = live_target(row);
+    let length = live_length(row);
+    let class = class_of(status);
+    finish_row(row);
+    Answer::Ended {
+        target,
+        length,
+        status,
+        class,
+    }
+}
+
+// The same in run memory.
+pub fn end(run: &mut [u64], row: usize, number: u16, status: u8) -> Answer
+    requires { ⌜ (length (now run) ≡ 96) × (row < 8) ⌝ }
+    ensures { λ r. ⌜ ((s : ℕ → Side) → ((k : ℕ) → FitSide (s k)) → now (run .entry) ≡ rowsWith s →
+        (r ≡ repliedAnswer number status (s row)) × (now (run .exit) ≡ rowsWith (changed row (repliedSide number (s row)) s))) ⌝ }
+{
+    end_row(&mut run[row * 12..row * 12 + 12], number, status)
+}

@@ -1,0 +1,3 @@
+pub mod Taking
+pub mod Heads
+pub mod Stands

@@ -1,0 +1,54 @@
+-- The search of the line, place by place: what was passed, and what is found.
+use mathlib.Core.Path.{_≡_, sym, _∙_}
+use mathlib.Core.Bool.{Bool, true, false}
+use mathlib.Core.Logic.{by-cases}
+use mathlib.Core.List.{List}
+use Prim.Native.Nat.{ℕ, _+_, _≤_, _<_}
+use native.Mathlib.Decide.{decLt}
+use native.Mathlib.Omega.{arith}
+use lib.ListN.{length, getD}
+use Rattle.lists.specs.Place.{first}
+use Rattle.lists.specs.laws.Place.{at-member}
+use Rattle.lists.specs.laws.Lines.{Passed, placed, first-at, first-none}
+use Rattle.plan_rules.specs.Plan.{Plan, Entry}
+use Rattle.box_rules.specs.State.{Request, Side}
+use Rattle.box_rules.specs.Turn.{allows}
+use Rattle.box_rules.specs.laws.Fit.{FitSide, FitRequest}
+use Rattle.plan_view.specs.View.{placeOr, Tells}
+use Rattle.initiators.specs.Run.{rowOf, wordOf}
+use Rattle.initiators.specs.laws.RowWords.{count-at, place-at}
+
+-- none before place i is permitted
+abbrev pub Sought : List ℕ → ℕ → ℕ → ℕ → Type 0
+Sought row targets span i = (s : Side) → FitSide s → row ≡ rowOf s → (p : Plan) (e : Entry) → Tells targets span e → Passed (allows p e) (s .line) i
+
+-- the answer for one word
+abbrev pub Says : ℕ → ℕ → ℕ → Bool → Type 0
+Says word targets span b = (p : Plan) (e : Entry) (r : Request) → Tells targets span e → FitRequest r → word ≡ wordOf r → b ≡ allows p e r
+
+abbrev pub Finds : List ℕ → ℕ → ℕ → ℕ → Type 0
+Finds row targets span i =
+    (s : Side) → FitSide s → row ≡ rowOf s → (p : Plan) (e : Entry) → Tells targets span e → i ≡ placeOr 8 (first (allows p e) (s .line))
+
+module _ (row : List ℕ) (targets span : ℕ) where
+  pub seek-begin : Sought row targets span 0
+  seek-begin s f is p e t k r h = absurd (omega arith)
+
+  module _ (i : ℕ) (before : Sought row targets span i) where
+    pub seek-next : (b : Bool) → Says (getD row (i + 2) 0) targets span b → b ≡ false → Sought row targets span (i + 1)
+    seek-next b says no′ s f is p e t k r h at =
+        by-cases (decLt k i) (λ l. before s f is p e t k r l at) (λ l. here (omega arith))
+      where
+        here : k ≡ i → allows p e r ≡ false
+        here z = sym (says p e r t (f .line r (at-member (s .line) k r at)) (rw (← z) (place-at s f row is k r at))) ∙ no′
+
+    pub seek-found : (b : Bool) → Says (getD row (i + 2) 0) targets span b → b ≡ true → i < getD row 1 0 → Finds row targets span i
+    unfolding placeOr
+    seek-found b says yes′ l s f is p e t =
+        let (r, at) = placed i (s .line) (omega (arith, count-at s f row is)) in
+        let y = sym (says p e r t (f .line r (at-member (s .line) i r at)) (place-at s f row is i r at)) ∙ yes′ in
+        rw (first-at (allows p e) (s .line) i r (before s f is p e t) at y)
+
+    pub seek-none : ((s : Side) → FitSide s → row ≡ rowOf s → length (s .line) ≤ i) → Finds row targets span 8
+    unfolding placeOr
+    seek-none all s f is p e t = rw (first-none (allows p e) (s .line) i (before s f is p e t) (all s f is))

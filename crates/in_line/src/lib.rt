@@ -1,0 +1,95 @@
+// The requests in an initiator's line: one joins, the oldest that an entry permits is found, one leaves.
+// Each contract holds for every side that the row is of.
+ghost use mathlib.Core.Path.{_≡_};
+ghost use mathlib.Core.List.{[], _∷_, _++_};
+ghost use Prim.Native.Nat.{_+_, _%_, _<_};
+ghost use lib.ListN.{length, getD};
+ghost use Rattle.lists.specs.Place.{first, without};
+ghost use Rattle.plan_rules.specs.Plan.{Plan, Entry};
+ghost use Rattle.box_rules.specs.State.{Side, Request};
+ghost use Rattle.box_rules.specs.Turn.{join, allows};
+ghost use Rattle.box_rules.specs.laws.Fit.{FitSide, FitRequest};
+ghost use Rattle.plan_view.specs.View.{placeOr, Tells};
+ghost use Rattle.initiators.specs.Run.{rowOf, wordOf};
+ghost use Rattle.initiators.specs.Row.{IsRow};
+ghost use Rattle.in_line.specs.Line.{HasRoom, leaves};
+use initiators::word::word_of;
+use plan_view::entry::permits;
+
+// "after 65,535 comes 0"
+fn next_number(number: u16) -> u16
+    ensures { λ r. ⌜ r ≡ (number + 1) % 65536 ⌝ }
+{
+    std::num::wrapping_add_u16(number, 1)
+}
+
+// "Joins its initiator's line and gets that initiator's next 16-bit transaction number"
+pub fn join_row(row: &mut [u64], target: u8, kind: u8, length: u16) -> u16
+    requires { ⌜ IsRow (now row) ⌝ }
+    ensures { λ r. ⌜ ((s : Side) → FitSide s → now (row .entry) ≡ rowOf s → HasRoom s → (r ≡ s .next) × (now (row .exit) ≡ rowOf (join target kind length s))) ⌝ }
+{
+    let n = row[1] as usize;
+    let number = (row[0] % 65536) as u16;
+    if n >= 8 {
+        return number;
+    }
+    row[n + 2] = word_of(target, kind, length, number);
+    row[1] = n as u64 + 1;
+    row[0] = next_number(number) as u64;
+    number
+}
+
+// Whether an entry with these targets and this span permits the request of a word.
+fn permits_word(word: u64, targets: u64, span: u8) -> bool
+    ensures { λ b. ⌜ ((p : Plan) (e : Entry) (r : Request) → Tells targets span e → FitRequest r → word ≡ wordOf r → b ≡ allows p e r) ⌝ }
+{
+    permits(
+        targets,
+        span,
+        (word % 256) as u8,
+        (word / 65536 % 65536) as u16,
+    )
+}
+
+// The place of the oldest waiting request that the entry permits, 8 for none.
+pub fn find_row(row: &[u64], targets: u64, span: u8) -> usize
+    requires { ⌜ IsRow (now row) ⌝ }
+    ensures { λ r. ⌜ (r < 8 → r < getD (now (row .entry)) 1 0) ⌝ }
+    ensures { λ r. ⌜ ((s : Side) → FitSide s → now (row .entry) ≡ rowOf s → (p : Plan) (e : Entry) → Tells targets span e → r ≡ placeOr 8 (first (allows p e) (s .line))) ⌝ }
+{
+    let n = row[1] as usize;
+    let mut i = 0;
+    while i < 8 {
+        if n <= i {
+            return 8;
+        }
+        if permits_word(row[i + 2], targets, span) {
+            return i;
+        }
+        i += 1;
+    }
+    8
+}
+
+// The eight places once the one at place k has left: those behind move up, and the last is 0.
+fn move_up(places: &mut [u64], k: usize)
+    requires { ⌜ (length (now places) ≡ 8) × (k < 8) ⌝ }
+    ensures { λ r. ⌜ now (places .exit) ≡ without k (now (places .entry)) ++ 0 ∷ [] ⌝ }
+{
+    let mut j = k;
+    while j < 7 {
+        places[j] = places[j + 1];
+        j += 1;
+    }
+    places[7] = 0;
+}
+
+// The request at place k leaves the line.
+pub fn take_row(row: &mut [u64], k: usize)
+    requires { ⌜ IsRow (now row) × (k < 8) × (k < getD (now row) 1 0) ⌝ }
+    ensures { λ r. ⌜ ((s : Side) → FitSide s → now (row .entry) ≡ rowOf s → now (row .exit) ≡ rowOf (leaves k s)) ⌝ }
+{
+    let n = row[1];
+    move_up(&mut row[2..10], k);
+    row[1] = n - 1;
+}

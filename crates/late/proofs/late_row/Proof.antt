@@ -1,0 +1,49 @@
+-- `late_row` meets its contract. Assumes nothing.
+use Rattle.late.proofs.Laws.{late-puts, late-not}
+use borrow.Author.Needs.{needs}
+use Rattle.late.proofs.late_row.Statement.{statement}
+use Rattle.late.proofs.late_row.Tie as tie
+
+age-row-requires : tie.Need-age-row-requires
+age-row-requires c κs = search needs
+
+put-full-requires : tie.Need-put-full-requires
+put-full-requires c κs = search needs
+
+same-length : tie.Need-same-length
+same-length c = search needs
+
+same-length-2 : tie.Need-same-length-2
+same-length-2 c = search needs
+
+returns : tie.Need-returns
+returns c =
+    let d = c .before .before .before .before in
+    let m = d .before .before .before .age-row in
+    let a = d .before .before .before .before .before .before .before .args in
+    λ clock s f is. (
+      m .ensures s f is .1,
+      late-puts clock (a .initiator) (a .v) (a .in-sequence) (m .result) (s .live) (f .live) (m .ensures s f is .0) (d .if1 .taken) (a .out .now) _ (a .at) _ (c .before .before .put-full .ensures clock),
+    )
+
+same-length-3 : tie.Need-same-length-3
+same-length-3 c = search needs
+
+returns-2 : tie.Need-returns-2
+returns-2 c =
+    let m = c .before .before .before .age-row in
+    let a = c .before .before .before .before .before .before .before .args in
+    λ clock s f is.
+    (m .ensures s f is .1, late-not clock (a .initiator) (a .v) (a .in-sequence) (m .result) (s .live) (m .ensures s f is .0) (c .if1 .left) (a .out .now) (a .at))
+
+pub late-row-spec : {M : Type 1} → statement M
+late-row-spec =
+    tie.close
+    (tie.spec
+    age-row-requires
+    put-full-requires
+    same-length
+    same-length-2
+    returns
+    same-length-3
+    returns-2)

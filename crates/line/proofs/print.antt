@@ -1,2 +1,0 @@
--- Laws of the printed line.
-pub mod Decimal

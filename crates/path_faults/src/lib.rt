@@ -1,0 +1,79 @@
+// The verdict on a path after the plan so far.
+ghost use mathlib.Core.Path.{_≡_};
+ghost use mathlib.Core.List.{List};
+ghost use Prim.Native.Nat.{ℕ, _<_};
+ghost use Rattle.lists.specs.Search.{any};
+ghost use Rattle.plan_rules.specs.Plan.{nth, Plan};
+ghost use Rattle.plan_rules.specs.Judge.{over63, outOfRange};
+ghost use Rattle.plan_rules.specs.laws.Fair.{Fair};
+ghost use Rattle.plan_memory.specs.Memory.{setsOf, endsOf, rowsOf, reachOf, numbersWith};
+ghost use Rattle.plan_memory.specs.Take.{itemFault, pathItem};
+ghost use Rattle.items.specs.Rows.{rowAmong};
+use items::several::gather;
+use walks::is_walk;
+
+// Verdict 6 of a path, over being whether a link is over 63.
+fn path_range(initiator: u8, target: u8, over: bool) -> bool
+    ensures { λ r. ⌜ ((links : List ℕ) → over ≡ any over63 links → r ≡ outOfRange (pathItem initiator target links)) ⌝ }
+{
+    if 63 < initiator {
+        return true;
+    }
+    if 63 < target {
+        return true;
+    }
+    if over {
+        return true;
+    }
+    initiator == target
+}
+
+// The verdict on the path, 0 for none; row is what the search for the initiator's row found. Where the verdict is 0 there is a row for the
+// initiator or room for one, and room for the path.
+pub fn path_fault(
+    sets: &[u64; 3],
+    ends: &[u8; 128],
+    rows: &[u8; 8],
+    reach: &[u64; 8],
+    numbers: &[u32; 6],
+    row: usize,
+    initiator: u8,
+    target: u8,
+    links: &[u8],
+) -> u8
+    requires { ⌜ row ≡ rowAmong (now rows) (nth (now numbers) 2) initiator ⌝ }
+    ensures { λ r. ⌜ ((size : ℕ) (p : Plan) → Fair p → now (sets .entry) ≡ setsOf p → now (ends .entry) ≡ endsOf p →
+        now (rows .entry) ≡ rowsOf p → now (reach .entry) ≡ reachOf p → now (numbers .entry) ≡ numbersWith size p →
+        r ≡ itemFault p (pathItem initiator target (now (links .entry)))) ⌝ }
+    ensures { λ r. ⌜ (r ≡ 0 → (row < 8) × (nth (now (numbers .entry)) 3 < 128)) ⌝ }
+{
+    let g = gather(links);
+    if path_range(initiator, target, g.over) {
+        return 6;
+    }
+    if row < 8 {
+        if sets::has(reach[row], target) {
+            return 7;
+        }
+    }
+    let nodes = sets[0];
+    if !sets::has(nodes, initiator) {
+        return 8;
+    }
+    if !sets::has(nodes, target) {
+        return 8;
+    }
+    if !sets::within(g.set, sets[2]) {
+        return 8;
+    }
+    if 8 <= row {
+        return 9;
+    }
+    if 128 <= numbers[3] {
+        return 9;
+    }
+    if !is_walk(sets, ends, initiator, links, target) {
+        return 10;
+    }
+    0
+}

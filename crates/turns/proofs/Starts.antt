@@ -1,0 +1,81 @@
+-- The start of a request: nothing starts, or the one that is found leaves the line and is live.
+use mathlib.Core.Path.{_≡_, refl, ap, _∙_}
+use mathlib.Core.List.{List}
+use mathlib.Core.Option.{Option, none, some}
+use mathlib.Core.Bool.{true, false}
+use Prim.Native.Nat.{ℕ, _+_, _*_, _≤_, _<_}
+use native.Mathlib.Omega.{arith}
+use lib.ListN.{getD, set}
+use Rattle.lists.specs.Search.{isSome}
+use Rattle.lists.specs.Place.{Found, first, atPlace}
+use Rattle.lists.specs.laws.Place.{first-some, without-member, without-short}
+use Rattle.lists.specs.laws.Lines.{at-below}
+use Rattle.plan_rules.specs.Plan.{Plan, Entry}
+use Rattle.box_rules.specs.State.{Request, Side}
+use Rattle.box_rules.specs.Turn.{allows, startAt, starting, fresh, begun}
+use Rattle.box_rules.specs.laws.Fit.{FitSide}
+use Rattle.plan_view.specs.View.{placeOr}
+use Rattle.initiators.specs.Run.{wordOf, liveWord, liveTime, rowOf}
+use Rattle.in_line.specs.Line.{leaves}
+use Rattle.turns.specs.Turns.{startedOf}
+use Rattle.turns.specs.declared.Started.{Started}
+use Rattle.initiators.specs.laws.RowWords.{place-at, live-set}
+
+-- the answer and the row once the entry has been visited
+abbrev pub Starts : Side → Plan → Entry → Started → List ℕ → Type 0
+Starts s p e r row = (r ≡ startedOf (starting p (some e) s)) × (row ≡ rowOf (begun s (starting p (some e) s)))
+
+leaves-fit : (s : Side) (k : ℕ) → FitSide s → FitSide (leaves k s)
+unfolding leaves
+leaves-fit s k f = record {
+  next = f .next;
+  few = omega (arith, f .few, without-short (s .line) k);
+  line = λ r m. f .line r (without-member (s .line) k r m);
+  live = f .live;
+}
+
+module _ (s : Side) (f : FitSide s) (row : List ℕ) (is : row ≡ rowOf s) (p : Plan) (e : Entry) where
+  starts-none : starting p (some e) s ≡ none → Starts s p e (record { started = false; word = 0 }) row
+  unfolding startedOf begun
+  starts-none h = (rw h, rw h is)
+
+  pub starts-live : isSome (s .live) ≡ true → Starts s p e (record { started = false; word = 0 }) row
+  unfolding starting
+  starts-live h = starts-none (rw (h, starting))
+
+  module _ (free : isSome (s .live) ≡ false) (k : ℕ) (at : k ≡ placeOr 8 (first (allows p e) (s .line))) where
+    sought : starting p (some e) s ≡ startAt e (first (allows p e) (s .line))
+    unfolding starting
+    sought = rw (free, starting)
+
+    stands : (g : Found Request) → first (allows p e) (s .line) ≡ some g → atPlace (g .place) (s .line) ≡ some (g .what)
+    stands g h = (first-some (allows p e) (s .line) g h) .0
+
+    -- what is found stands within the line, so that 8 tells none
+    none-found : 8 ≤ k → (o : Option (Found Request)) → first (allows p e) (s .line) ≡ o → o ≡ none
+    unfolding placeOr
+    none-found h none q = refl
+    none-found h (some g) q =
+        let z : k ≡ g .place = at ∙ ap (placeOr 8) q in
+        absurd (omega (arith, f .few, at-below (g .place) (s .line) (g .what) (stands g q)))
+
+    one-found : k < 8 → (o : Option (Found Request)) → first (allows p e) (s .line) ≡ o → (g : Found Request) × (o ≡ some g) × (k ≡ g .place)
+    unfolding placeOr
+    one-found h none q = let z : k ≡ 8 = at ∙ ap (placeOr 8) q in absurd (omega arith)
+    one-found h (some g) q = (g, refl, at ∙ ap (placeOr 8) q)
+
+    pub starts-nothing : 8 ≤ k → Starts s p e (record { started = false; word = 0 }) row
+    unfolding startAt
+    starts-nothing h = starts-none (sought ∙ ap (startAt e) (none-found h (first (allows p e) (s .line)) refl))
+
+    pub starts-one : k < 8 → (x : List ℕ) (t : ℕ) → x ≡ rowOf (leaves k s) → t ≡ e .span * 256 + 0
+        → Starts s p e (record { started = true; word = getD row (k + 2) 0 }) (set (set x 10 (getD row (k + 2) 0)) 11 t)
+    unfolding startAt startedOf begun fresh rowOf leaves liveWord liveTime
+    starts-one h x t ex et = let (g, q, z) = one-found h (first (allows p e) (s .line)) refl in by g q z
+      where
+        by : (g : Found Request) → first (allows p e) (s .line) ≡ some g → k ≡ g .place
+            → Starts s p e (record { started = true; word = getD row (k + 2) 0 }) (set (set x 10 (getD row (k + 2) 0)) 11 t)
+        by g q z =
+            let w : getD row (k + 2) 0 ≡ wordOf (g .what) = place-at s f row is k (g .what) (ap (λ (j : ℕ). atPlace j (s .line)) z ∙ stands g q) in
+            let y : starting p (some e) s ≡ some (record { entry = e; found = g }) = sought ∙ ap (startAt e) q in
+            (rw (w, y), live-set (leaves k s) (leaves-fit s k f) x ex (getD row (k + 2) 0) t ∙ rw (y, w, et, ← z))

@@ -1,0 +1,18 @@
+-- What the functions on one initiator at a time-code answer.
+use mathlib.Core.Option.{Option, none, some}
+use mathlib.Core.Bool.{Bool, true, false, cond}
+use Rattle.box_rules.specs.State.{Live}
+use Rattle.box_rules.specs.Turn.{Start, isLate}
+use Rattle.initiators.specs.Run.{wordOf}
+use Rattle.turns.specs.declared.Late.{Late}
+use Rattle.turns.specs.declared.Started.{Started}
+
+-- the live transaction that is late, as its word
+unfoldable pub lateOf : Bool → Option Live → Late
+lateOf q none = record { late = false; word = 0 }
+lateOf q (some l) = cond (isLate q l) (record { late = true; word = wordOf (l .request) }) (record { late = false; word = 0 })
+
+-- the request that starts, as its word
+unfoldable pub startedOf : Option Start → Started
+startedOf none = record { started = false; word = 0 }
+startedOf (some x) = record { started = true; word = wordOf (x .found .what) }

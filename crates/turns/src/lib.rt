@@ -1,0 +1,95 @@
+// One initiator at a time-code: lateness of what is live, and the start of a request that waits.
+// Each contract holds for every side that the row is of.
+ghost use mathlib.Core.Path.{_≡_};
+ghost use mathlib.Core.Option.{some};
+ghost use Rattle.plan_rules.specs.Plan.{Plan, Entry};
+ghost use Rattle.box_rules.specs.State.{Side, Live};
+ghost use Rattle.box_rules.specs.Turn.{aged, isLate, starting, begun};
+ghost use Rattle.box_rules.specs.laws.Fit.{FitSide, FitLive};
+ghost use Rattle.plan_view.specs.View.{Tells};
+ghost use Rattle.initiators.specs.Run.{rowOf, liveTime};
+ghost use Rattle.initiators.specs.Row.{IsRow};
+ghost use Rattle.turns.specs.Turns.{lateOf, startedOf};
+use in_line::find_row;
+use in_line::take_row;
+use initiators::row::finish_row;
+use initiators::row::has_live;
+
+// The transaction that is late, if any.
+pub struct Late {
+    pub late: bool,
+    pub word: u64,
+}
+
+// The request that starts, if any.
+pub struct Started {
+    pub started: bool,
+    pub word: u64,
+}
+
+// "out of sequence, every live one; else each one started span accepted time-codes ago"
+fn is_late(time: u64, in_sequence: bool) -> bool
+    ensures { λ r. ⌜ ((l : Live) → FitLive l → time ≡ liveTime (some l) → r ≡ isLate «in_sequence» l) ⌝ }
+{
+    if in_sequence {
+        time / 256 <= time % 256 + 1
+    } else {
+        true
+    }
+}
+
+// Lateness at a time-code: a late transaction ends, another is one time-code older.
+pub fn age_row(row: &mut [u64], in_sequence: bool) -> Late
+    requires { ⌜ IsRow (now row) ⌝ }
+    ensures { λ r. ⌜ ((s : Side) → FitSide s → now (row .entry) ≡ rowOf s → (r ≡ lateOf «in_sequence» (s .live)) × (now (row .exit) ≡ rowOf (aged «in_sequence» s))) ⌝ }
+{
+    let word = row[10];
+    let time = row[11];
+    if time == 0 {
+        return Late {
+            late: false,
+            word: 0,
+        };
+    }
+    if is_late(time, in_sequence) {
+        finish_row(row);
+        return Late {
+            late: true,
+            word: word,
+        };
+    }
+    row[11] = std::num::wrapping_add_u64(time, 1);
+    Late {
+        late: false,
+        word: 0,
+    }
+}
+
+// "the oldest waiting request it permits (target and 256 × span) starts"; "Were that initiator still live, … nothing starts."
+pub fn start_row(row: &mut [u64], targets: u64, span: u8) -> Started
+    requires { ⌜ IsRow (now row) ⌝ }
+    ensures { λ r. ⌜ ((s : Side) → FitSide s → now (row .entry) ≡ rowOf s → (p : Plan) (e : Entry) → Tells targets span e →
+        (r ≡ startedOf (starting p (some e) s)) × (now (row .exit) ≡ rowOf (begun s (starting p (some e) s)))) ⌝ }
+{
+    if has_live(row) {
+        return Started {
+            started: false,
+            word: 0,
+        };
+    }
+    let k = find_row(row, targets, span);
+    if k >= 8 {
+        return Started {
+            started: false,
+            word: 0,
+        };
+    }
+    let word = row[k + 2];
+    take_row(row, k);
+    row[10] = word;
+    row[11] = 256 * span as u64;
+    Started {
+        started: true,
+        word: word,
+    }
+}

@@ -1,0 +1,64 @@
+-- The visit of one initiator's entry: what starts, and which record is put.
+use mathlib.Core.Path.{_≡_, refl, ap, _∙_}
+use mathlib.Core.List.{List, _++_, flatMap}
+use mathlib.Core.Option.{Option, none, some}
+use mathlib.Core.Bool.{Bool, true, false}
+use Prim.Native.Nat.{ℕ, _+_}
+use Rattle.lists.specs.Search.{isSome}
+use Rattle.lists.specs.Puts.{Puts}
+use Rattle.lists.specs.laws.Bools.{not-both, is-some, not-some}
+use Rattle.lists.specs.laws.Place.{first-some, at-member}
+use Rattle.lists.specs.laws.Puts.{puts-none}
+use Rattle.plan_rules.specs.Plan.{Plan, Entry}
+use Rattle.box_rules.specs.State.{Request, Side}
+use Rattle.box_rules.specs.Turn.{Start, allows, starting, begun}
+use Rattle.box_rules.specs.Records.{recordBytes, full, startRecord, stillRecord}
+use Rattle.box_rules.specs.laws.Fit.{FitRequest, FitSide}
+use Rattle.box_rules.specs.laws.Turns.{starting-elim}
+use Rattle.initiators.specs.Run.{wordOf, liveWord, rowOf}
+use Rattle.turns.specs.Turns.{startedOf}
+use Rattle.turns.specs.declared.Started.{Started}
+use Rattle.records.specs.laws.One.{puts-one}
+
+started? : Started → Bool
+started? r = r .started
+
+module _ (clock i v : ℕ) (p : Plan) (e : Entry) (s : Side) (f : FitSide s) where
+  abbrev start : Option Start
+  start = starting p (some e) s
+
+  abbrev shown : List ℕ
+  shown = flatMap (recordBytes clock) (startRecord i v start ++ stillRecord (some e) i v (s .live))
+
+  -- code that puts a record of a kind for the request of a word
+  abbrev Shows : ℕ → ℕ → List ℕ → List ℕ → ℕ → ℕ → Type 0
+  Shows kind word before after j k = (x : Request) → FitRequest x → word ≡ wordOf x → Puts before j (recordBytes clock (full kind i v x)) after k
+
+  -- still live: nothing starts
+  pub visit-live : (row : List ℕ) (word : ℕ) → row ≡ rowOf s → isSome (s .live) ≡ true → word ≡ liveWord (s .live) → (before after : List ℕ) (j k : ℕ) → Shows 6 word before after j k
+      → (row ≡ rowOf (begun s start)) × Puts before j shown after k
+  unfolding starting begun startRecord stillRecord liveWord
+  visit-live row word is h w before after j k puts =
+      let (l, z) = is-some (s .live) h in
+      (rw (h, starting) is, rw (h, starting, z) (puts-one clock (full 6 i v (l .request)) (puts (l .request) (f .live l z .request) (w ∙ ap liveWord z))))
+
+  module _ (r : Started) (is : r ≡ startedOf start) where
+    pub visit-start : r .started ≡ true → (before after : List ℕ) (j k : ℕ) → Shows 5 (r .word) before after j k → Puts before j shown after k
+    unfolding startedOf started? startRecord stillRecord
+    visit-start h before after j k puts = go start refl
+      where
+        go : (o : Option Start) → start ≡ o → Puts before j shown after k
+        go none g = not-both h (ap started? (is ∙ ap startedOf g))
+        go (some x) g =
+            let z = starting-elim p (some e) s x g in
+            let at = (first-some (allows p (x .entry)) (s .line) (x .found) (z .found)) .0 in
+            let m = at-member (s .line) (x .found .place) (x .found .what) at in
+            rw (g, z .free) (puts-one clock (full 5 i v (x .found .what)) (puts (x .found .what) (f .line (x .found .what) m) (ap (λ (y : Started). y .word) (is ∙ ap startedOf g))))
+
+    pub visit-nothing : r .started ≡ false → isSome (s .live) ≡ false → (before : List ℕ) (j : ℕ) → Puts before j shown before j
+    unfolding startedOf started? startRecord stillRecord flatMap
+    visit-nothing h free before j = go start refl
+      where
+        go : (o : Option Start) → start ≡ o → Puts before j shown before j
+        go none g = rw (g, not-some (s .live) free) (puts-none before j)
+        go (some x) g = not-both (ap started? (is ∙ ap startedOf g)) h

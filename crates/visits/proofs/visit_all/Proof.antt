@@ -1,0 +1,94 @@
+-- `visit_all` meets its contract. The loop's invariant: the initiators of the rows before this one are done. Assumes nothing.
+use mathlib.Core.Path.{refl}
+use mathlib.Core.Logic.{⊎-elim}
+use Prim.Native.Nat.{_+_, _≤_, _-_}
+use native.Mathlib.Omega.{arith}
+use Rattle.records.specs.laws.Sweeps.{swept-begin}
+use Rattle.visits.proofs.Sweep.{newSide, newRecords, VisitStands, visit-one, visit-no-one, visit-done}
+use borrow.Author.Needs.{needs}
+use Rattle.visits.proofs.visit_all.Statement.{statement}
+use Rattle.visits.proofs.visit_all.Tie as tie
+
+abbrev Inv-loop : tie.InvT-loop
+Inv-loop rows spans aims numbers run₀ out₀ at v count k₀ row₀ run out k row = (row ≤ 8) × VisitStands rows spans aims numbers run₀ v out₀ at run out k row
+
+abbrev μ-loop : tie.MeasureT-loop
+μ-loop rows spans aims numbers run₀ out₀ at v count k₀ row₀ run out k row = 8 - row
+
+count-of-requires : tie.Need-count-of-requires Inv-loop μ-loop
+count-of-requires c κs = search needs
+
+loop-holds : tie.Need-loop-holds Inv-loop μ-loop
+loop-holds c =
+    let a = c .before .before .args in
+    (omega arith, (refl, λ x es ea. swept-begin x (newSide x (a .v)) (newRecords x (a .v)) (a .out .now) (a .at)))
+
+same-length : tie.Need-same-length Inv-loop μ-loop
+same-length c = c .before .before .loop .inv .1 .0
+
+returns : tie.Need-returns Inv-loop μ-loop
+returns c =
+    let l = c .before .before in
+    visit-done (l .before .before .before .args .v) (l .loop .inv .1) (λ x. omega (arith, l .before .count-of .ensures (x .size) (x .plan) (x .sound) (x .numbers)))
+
+span-at-requires : tie.Need-span-at-requires Inv-loop μ-loop
+span-at-requires c κs = search needs
+
+element-copy-out-visit-at : tie.Need-element-copy-out-visit-at Inv-loop μ-loop
+element-copy-out-visit-at c = search needs
+
+targets-at-requires : tie.Need-targets-at-requires Inv-loop μ-loop
+targets-at-requires c κs = search needs
+
+visit-at-requires : tie.Need-visit-at-requires Inv-loop μ-loop
+visit-at-requires c κs = search needs
+
+add-row : tie.Need-add-row Inv-loop μ-loop
+add-row c = search needs
+
+loop-less : tie.Need-loop-less Inv-loop μ-loop
+loop-less c = search needs
+
+loop-again : tie.Need-loop-again Inv-loop μ-loop
+loop-again c =
+    let s = c .before .span-at in
+    let d = c .before .before in
+    let l = d .before .before in
+    let a = l .before .before .before .args in
+    let n = l .before .count-of in (
+      omega arith,
+      ⊎-elim
+          {C = VisitStands (a .rows .now) (a .spans .now) (a .aims .now) (a .numbers .now) (a .run .now) (a .v) (a .out .now) (a .at) (c .if2 .run) (c .if2 .out) (c .if2 .k) (l .loop .row + 1)}
+          (λ w. visit-one (a .v) (l .loop .inv .1) (n .result) (n .ensures) (d .if1 .left) (s .result) (s .ensures) (w .0 .taken) (w .4 .result) (w .4 .ensures) (w .5 .last .0) (w .5 .last .1 .1 .0) (w .5 .result) (w .5 .ensures)
+          (w .5 .kept .1 .1 .0) (c .if2 .run) (c .if2 .out) (c .if2 .k) (w .8) (w .9) (w .10))
+          (λ w. visit-no-one (a .v) (l .loop .inv .1) (n .result) (n .ensures) (d .if1 .left) (s .result) (s .ensures) (w .0 .left) (c .if2 .run) (c .if2 .out) (c .if2 .k) (w .1) (w .2) (w .3))
+          (c .if2 .came),
+    )
+
+same-length-2 : tie.Need-same-length-2 Inv-loop μ-loop
+same-length-2 c = c .before .loop .inv .1 .0
+
+returns-2 : tie.Need-returns-2 Inv-loop μ-loop
+returns-2 c =
+    let l = c .before in
+    visit-done (l .before .before .before .args .v) (l .loop .inv .1) (λ x. omega (arith, x .sound .eight))
+
+pub visit-all-spec : {M : Type 1} → statement M
+visit-all-spec =
+    tie.close
+    (tie.spec
+    Inv-loop
+    μ-loop
+    count-of-requires
+    loop-holds
+    same-length
+    returns
+    span-at-requires
+    element-copy-out-visit-at
+    targets-at-requires
+    visit-at-requires
+    add-row
+    loop-less
+    loop-again
+    same-length-2
+    returns-2)

@@ -1,0 +1,30 @@
+-- The bytes that writing out puts for a path and an entry, as the code finds them in plan memory.
+use Prim.Native.Nat.{ℕ, _+_, _*_, _/_, _%_}
+use mathlib.Core.List.{List, [], flatMap}
+use mathlib.Core.Bool.{cond}
+use lib.ListN.{take, drop}
+use lib.Dec.{eqb}
+use Rattle.lists.specs.Search.{keep, upFrom, below64}
+use Rattle.sets.specs.Set.{members}
+use Rattle.plan_rules.specs.Plan.{nth}
+use Rattle.plan_rules.specs.Fields.{fieldFor}
+use Rattle.plan_memory.specs.Take.{pathItem, entryItem}
+
+-- of the path in row n: a path has a link
+unfoldable pub pathLinks : List ℕ → ℕ → List ℕ
+pathLinks paths n = take (nth paths (11 * n + 2)) (drop (11 * n + 3) paths)
+
+unfoldable pub pathBytes : List ℕ → ℕ → List ℕ
+pathBytes paths n = cond (eqb (nth paths (11 * n + 2)) 0) [] (fieldFor (pathItem (nth paths (11 * n)) (nth paths (11 * n + 1)) (pathLinks paths n)))
+
+-- the members of a set, rising
+unfoldable pub rises : ℕ → List ℕ
+rises s = keep (members s) below64
+
+-- of the entry in cell n: an entry has a span
+unfoldable pub entryBytes : List ℕ → List ℕ → List ℕ → ℕ → List ℕ
+entryBytes rows spans aims n = cond (eqb (nth spans n) 0) [] (fieldFor (entryItem (nth rows (n / 64)) (n % 64) (nth spans n) (rises (nth aims n))))
+
+-- of the entries in the eight cells from n on
+unfoldable pub eightBytes : List ℕ → List ℕ → List ℕ → ℕ → List ℕ
+eightBytes rows spans aims n = flatMap (λ (s : ℕ). entryBytes rows spans aims (n + s)) (upFrom 8 0)

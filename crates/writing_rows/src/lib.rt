@@ -1,0 +1,148 @@
+// Paths and entries in memory as fields of a file again, row by row and cell by cell, in a lent buffer.
+// No function here stores a byte that has no room, whatever the memory holds.
+ghost use mathlib.Core.Path.{_≡_};
+ghost use mathlib.Core.List.{flatMap};
+ghost use mathlib.Core.Bool.{true};
+ghost use Prim.Native.Nat.{ℕ, _+_, _%_, _≤_, _<_};
+ghost use Rattle.lists.specs.Search.{upFrom};
+ghost use Rattle.lists.specs.Puts.{Puts};
+ghost use Rattle.plan_rules.specs.Plan.{nth};
+ghost use Rattle.writing_rows.specs.Out.{pathBytes, rises, entryBytes, eightBytes};
+use line::print::put;
+use reader::field::part;
+use reader::field::wide;
+use sets::least;
+use sets::size;
+use sets::without_least;
+
+// The path of row n, where it has a link.
+fn put_path(out: &mut [u8], at: usize, paths: &[u8; 1408], n: usize) -> usize
+    requires { ⌜ n < 128 ⌝ }
+    ensures { λ r. ⌜ Puts (now (out .entry)) at (pathBytes (now (paths .entry)) n) (now (out .exit)) r ⌝ }
+{
+    let row = 11 * n;
+    let count = wide(paths[row + 2]);
+    if count == 0 {
+        return at;
+    }
+    let links = part(paths, row + 3, count);
+    let size = 2 + links.len() as u16;
+    let initiator = paths[row];
+    let target = paths[row + 1];
+    let start = [3, (size / 256) as u8, (size % 256) as u8, initiator, target];
+    let k = put(out, at, &start);
+    put(out, k, links)
+}
+
+// The paths of the first rows, row by row.
+pub fn put_paths(out: &mut [u8], at: usize, paths: &[u8; 1408], rows: usize) -> usize
+    requires { ⌜ rows ≤ 128 ⌝ }
+    ensures { λ r. ⌜ Puts (now (out .entry)) at (flatMap (pathBytes (now (paths .entry))) (upFrom rows 0)) (now (out .exit)) r ⌝ }
+{
+    let mut k = at;
+    let mut n = 0;
+    while n < rows {
+        k = put_path(out, k, paths, n);
+        n += 1;
+    }
+    k
+}
+
+// The members of a set, rising.
+fn put_members(out: &mut [u8], at: usize, set: u64) -> usize
+    ensures { λ r. ⌜ Puts (now (out .entry)) at (rises set) (now (out .exit)) r ⌝ }
+{
+    let mut k = at;
+    let mut rest = set;
+    while rest != 0 {
+        let target = [least(rest) as u8];
+        k = put(out, k, &target);
+        rest = without_least(rest);
+    }
+    k
+}
+
+// The entry of cell n, where it has a span.
+fn put_entry(
+    out: &mut [u8],
+    at: usize,
+    rows: &[u8; 8],
+    spans: &[u8; 512],
+    aims: &[u64; 512],
+    n: usize,
+) -> usize
+    requires { ⌜ n < 512 ⌝ }
+    ensures { λ r. ⌜ Puts (now (out .entry)) at (entryBytes (now (rows .entry)) (now (spans .entry)) (now (aims .entry)) n) (now (out .exit)) r ⌝ }
+{
+    let span = spans[n];
+    if span == 0 {
+        return at;
+    }
+    let aim = aims[n];
+    // At most 67 bytes: their number has no high byte.
+    let size = 3 + size(aim) as u8;
+    let initiator = rows[n / 64];
+    let slot = (n % 64) as u8;
+    let start = [4, 0, size, initiator, slot, span];
+    let k = put(out, at, &start);
+    put_members(out, k, aim)
+}
+
+// Whether the eight cells from n on have no span. Joined into a word, their bytes are read at once.
+fn no_span(spans: &[u8; 512], n: usize) -> bool
+    requires { ⌜ n + 8 ≤ 512 ⌝ }
+    ensures { λ r. ⌜ (r ≡ true → (s : ℕ) → s < 8 → nth (now (spans .entry)) (n + s) ≡ 0) ⌝ }
+{
+    let mut word: u64 = 0;
+    let mut j = 0;
+    while j < 8 {
+        word = word | (wide(spans[n + j]) as u64) << (8 * j);
+        j += 1;
+    }
+    word == 0
+}
+
+// The entries of the eight cells from n on.
+fn put_eight(
+    out: &mut [u8],
+    at: usize,
+    rows: &[u8; 8],
+    spans: &[u8; 512],
+    aims: &[u64; 512],
+    n: usize,
+) -> usize
+    requires { ⌜ n + 8 ≤ 512 ⌝ }
+    ensures { λ r. ⌜ Puts (now (out .entry)) at (eightBytes (now (rows .entry)) (now (spans .entry)) (now (aims .entry)) n) (now (out .exit)) r ⌝ }
+{
+    if no_span(spans, n) {
+        return at;
+    }
+    let mut k = at;
+    let mut j = n;
+    while j < n + 8 {
+        k = put_entry(out, k, rows, spans, aims, j);
+        j += 1;
+    }
+    k
+}
+
+// The entries of the first cells, in their order: by initiator, then by slot.
+pub fn put_entries(
+    out: &mut [u8],
+    at: usize,
+    rows: &[u8; 8],
+    spans: &[u8; 512],
+    aims: &[u64; 512],
+    cells: usize,
+) -> usize
+    requires { ⌜ (cells ≤ 512) × (cells % 8 ≡ 0) ⌝ }
+    ensures { λ r. ⌜ Puts (now (out .entry)) at (flatMap (entryBytes (now (rows .entry)) (now (spans .entry)) (now (aims .entry))) (upFrom cells 0)) (now (out .exit)) r ⌝ }
+{
+    let mut k = at;
+    let mut n = 0;
+    while n < cells {
+        k = put_eight(out, k, rows, spans, aims, n);
+        n += 8;
+    }
+    k
+}
