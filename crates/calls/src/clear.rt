@@ -1,30 +1,8 @@
 // "Clear. The state is then the one before any load, every number of it."
-ghost use mathlib.Core.Path.{_≡_};
-ghost use lib.ListN.{replicate};
-ghost use Rattle.box_rules.specs.State.{watchdogCleared};
 ghost use Rattle.calls.specs.Calls.{memory, ClearLeaves};
 use box_rules::Watchdog;
-
-// Run memory of a clear.
-pub fn clear_run(run: &mut [u64; 96], last: &mut [u8; 1])
-    ensures { λ _. ⌜ (now (run .exit) ≡ replicate 96 0) × (now (last .exit) ≡ replicate 1 0) ⌝ }
-{
-    *run = [0u64; 96];
-    *last = [0u8; 1];
-}
-
-// The five numbers of a clear.
-pub fn cleared_watchdog() -> Watchdog
-    ensures { λ r. ⌜ r ≡ watchdogCleared ⌝ }
-{
-    Watchdog {
-        last: 0,
-        seen: 0,
-        reported: 0,
-        least: 0,
-        greatest: 0,
-    }
-}
+use cleared::clear_run;
+use cleared::cleared_watchdog;
 
 // The box of a clear; the five numbers as the answer.
 pub fn clear_with(

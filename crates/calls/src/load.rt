@@ -1,7 +1,7 @@
 // "Load. … A refused load leaves the state of a clear … An accepted load replaces everything".
 ghost use Rattle.calls.specs.Calls.{memory, LoadLeaves};
-use crate::clear::clear_run;
 use box_rules::Watchdog;
+use cleared::clear_run;
 use plan_rules::Verdict;
 
 // The verdict on a file, and the five numbers after the load.

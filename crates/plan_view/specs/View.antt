@@ -1,16 +1,16 @@
--- What the running box reads of a plan: whether there is one, the rows of its initiators, its entries, the links of a path.
+-- What the running box reads of a plan: whether there is one, the rows of its initiators, its entries.
 use mathlib.Core.Path.{_≡_}
 use Prim.Native.Nat.{ℕ, _<_}
-use mathlib.Core.List.{List, []}
+use mathlib.Core.List.{List}
 use mathlib.Core.Option.{Option, none, some, Option·getD}
 use lib.Dec.{eqb}
-use Rattle.lists.specs.Search.{find, isIn}
+use Rattle.lists.specs.Search.{isIn}
 use Rattle.lists.specs.Place.{Found, first}
 use Rattle.sets.specs.Set.{member}
 use Rattle.plan_rules.specs.Plan.{Entry, Plan, blank}
-use Rattle.plan_rules.specs.Meaning.{initiators, leadsFrom}
+use Rattle.plan_rules.specs.Meaning.{initiators}
 use Rattle.plan_rules.specs.laws.Sound.{Sound}
-use Rattle.plan_memory.specs.Memory.{rowsOf, pathsInOrder, spansOf, aimsOf, greatestOf, numbersOf}
+use Rattle.plan_memory.specs.Memory.{rowsOf, spansOf, aimsOf, greatestOf, numbersOf}
 
 -- the plan, blank where there is none
 abbrev pub planIn : Option Plan → Plan
@@ -42,11 +42,3 @@ rowFor p i = placeOr 8 (first (eqb i) (initiators p))
 pub record Tells (targets′ span′ : ℕ) (e : Entry) : Type 0 where
   pub targets : (t : ℕ) → isIn t (e .targets) ≡ member t targets′
   pub span : e .span ≡ span′
-
--- the row of a path in `paths`, 128 for none
-unfoldable pub pathPlace : Plan → ℕ → ℕ → ℕ
-pathPlace p i t = placeOr 128 (first (leadsFrom i t) (pathsInOrder p))
-
--- the links of the path from i to t
-unfoldable pub linksBetween : Plan → ℕ → ℕ → List ℕ
-linksBetween p i t = elim (find (leadsFrom i t) (p .paths)) [ none ↦ [] | some x ↦ x .links ]

@@ -1,5 +1,4 @@
 // What the running box reads of plan memory. Each function is total, and has a meaning for every plan that memory holds.
 pub mod entry;
 pub mod interval;
-pub mod path;
 pub mod row;

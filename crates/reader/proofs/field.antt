@@ -1,3 +1,2 @@
 -- Laws of the field reader.
-pub mod Tags
 pub mod Heads

@@ -1,12 +1,12 @@
 // The field reader: one field at an offset of the file, its head judged, its content handed on as a part of the file's own bytes.
 ghost use mathlib.Core.Path.{_≡_};
-ghost use mathlib.Core.Bool.{_&&_};
 ghost use Prim.Native.Nat.{_+_, _*_, _≤_, _<_};
-ghost use lib.Dec.{leb};
 ghost use lib.ListN.{length, take, drop};
 ghost use Rattle.plan_rules.specs.Plan.{two, four};
-ghost use Rattle.plan_rules.specs.Fields.{isTag, comesOnce, lengthAllowed};
 ghost use Rattle.reader.specs.Head.{headOf};
+use tags::comes_once;
+use tags::is_tag;
+use tags::length_allowed;
 
 // The head of a field: verdict 2 to 5, or the tag and the size of the content.
 pub enum Head {
@@ -34,44 +34,6 @@ pub fn four_at(s: &[u8], at: usize) -> u32
     ensures { λ r. ⌜ r ≡ four (now (s .entry)) at ⌝ }
 {
     (two_at(s, at) as u32) * 65536 + two_at(s, at + 2) as u32
-}
-
-fn is_tag(tag: u8) -> bool
-    ensures { λ r. ⌜ r ≡ isTag tag ⌝ }
-{
-    match tag {
-        1..=5 => true,
-        _ => false,
-    }
-}
-
-fn comes_once(tag: u8) -> bool
-    ensures { λ r. ⌜ r ≡ comesOnce tag ⌝ }
-{
-    tag == 5
-}
-
-fn between(least: u16, size: u16, most: u16) -> bool
-    ensures { λ r. ⌜ r ≡ (leb least size && leb size most) ⌝ }
-{
-    if size < least {
-        return false;
-    }
-    size <= most
-}
-
-// The table of document 01: "tag, length".
-fn length_allowed(tag: u8, size: u16) -> bool
-    ensures { λ r. ⌜ r ≡ lengthAllowed tag size ⌝ }
-{
-    match tag {
-        1 => between(2, size, 2),
-        2 => between(3, size, 3),
-        3 => between(3, size, 10),
-        4 => between(4, size, 19),
-        5 => between(8, size, 8),
-        _ => false,
-    }
 }
 
 // Reads a field's tag and length, and judges them.

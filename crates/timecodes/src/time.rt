@@ -1,56 +1,26 @@
 // A time-code: the sequence rule, then the records in order, then the five numbers.
 ghost use mathlib.Core.Path.{_≡_};
 ghost use mathlib.Core.List.{[], _∷_, flatMap};
-ghost use mathlib.Core.Option.{Option};
-ghost use Prim.Native.Nat.{ℕ};
 ghost use lib.ListN.{length};
 ghost use Rattle.box_rules.specs.declared.Event.the-variants.{TimeCode};
 ghost use Rattle.lists.specs.Puts.{Puts};
-ghost use Rattle.plan_view.specs.View.{Timed};
 ghost use Rattle.box_rules.specs.State.{Box, thePlan};
-ghost use Rattle.box_rules.specs.Refuse.{refusal};
-ghost use Rattle.box_rules.specs.Turn.{inSequence};
 ghost use Rattle.box_rules.specs.Records as rules-records;
 ghost use Rattle.box_rules.specs.Records.{recordBytes};
 ghost use Rattle.box_rules.specs.Step as rules;
 ghost use Rattle.box_rules.specs.Step.{ticked};
-ghost use Rattle.initiators.specs.Run.{lastOf, runOf};
+ghost use Rattle.initiators.specs.Run.{runOf};
 ghost use Rattle.initiators.specs.Memory.{Finds, Does};
 use box_rules::Answer;
 use box_rules::Watchdog;
 use late::report_late;
-use plan_view::interval::is_loaded;
 use records::put_sequence;
 use records::put_watchdog;
+use sequence::in_sequence;
+use sequence::refuse;
 use visits::visit_all;
 use watchdog::watch::Stepped;
 use watchdog::watch::fed_with;
-
-// "The first after a load is in sequence; later ones are if v is one more than the last accepted value … modulo 64."
-fn in_sequence(last: u8, byte: u8) -> bool
-    ensures { λ r. ⌜ ((o : Option ℕ) → last ≡ lastOf o → r ≡ inSequence o byte) ⌝ }
-{
-    if last == 0 {
-        return true;
-    }
-    byte % 64 == last % 64
-}
-
-// Refusals 20, 21 and 29 of a time-code, 0 for none.
-fn refuse(numbers: &[u32; 6], byte: u8, room: usize) -> u8
-    ensures { λ r. ⌜ ((b : Box) → Timed (b .plan) (now (numbers .entry)) → (clock : ℕ) → r ≡ refusal room b (TimeCode byte clock)) ⌝ }
-{
-    if !is_loaded(numbers) {
-        return 20;
-    }
-    if 64 <= byte {
-        return 21;
-    }
-    if room < 136 {
-        return 29;
-    }
-    0
-}
 
 // The records of an accepted time-code, and run memory after it. Answers where the records end.
 fn run_on(

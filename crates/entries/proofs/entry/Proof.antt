@@ -1,4 +1,4 @@
--- `items::entry::entry` meets its contract: what each test tells, and a law for each way that the code goes.
+-- `entries::entry` meets its contract: what each test tells, and a law for each way that the code goes.
 -- Assumes nothing.
 use mathlib.Core.Path.{_≡_, sym, _∙_}
 use mathlib.Core.Logic.{⊎-elim}

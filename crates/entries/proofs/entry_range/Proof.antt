@@ -1,4 +1,4 @@
--- `items::entry::entry_range` meets its contract: the first comparison that fails decides, and at last the targets do.
+-- `entries::entry_range` meets its contract: the first comparison that fails decides, and at last the targets do.
 -- Assumes nothing.
 use mathlib.Core.Path.{sym, _∙_}
 use Rattle.entries.proofs.Ranges.{entry-initiator, entry-slot, entry-no-span, entry-span, entry-targets}

@@ -1,4 +1,4 @@
--- `plan::fields::read_fields` meets its contract: reading stands at a field, with the plan so far in memory, and each turn passes one.
+-- `fields::read_fields` meets its contract: reading stands at a field, with the plan so far in memory, and each turn passes one.
 -- The measure is what is left of the file. Assumes nothing.
 use mathlib.Core.Path.{_≡_, sym, _∙_}
 use mathlib.Core.Option.{some}

@@ -1,4 +1,4 @@
--- `plan::fields::take_item` meets its contract: the tag's row of the table gives the item and the bounds of its content's length, and
+-- `fields::take_item` meets its contract: the tag's row of the table gives the item and the bounds of its content's length, and
 -- the arm's function judges it and keeps it. Assumes nothing.
 use mathlib.Core.Path.{_≡_, refl, sym, ap, ap₂, _∙_}
 use Prim.Native.Nat.{_≤_}
@@ -14,7 +14,7 @@ use Rattle.plan_rules.specs.Fields.{tags, tagOf, asDevice, asLink, asPath, asEn
 use Rattle.plan_rules.specs.laws.Items.{no-entries}
 use Rattle.plan_memory.specs.Take.{pathItem, entryItem, timingItem}
 use Rattle.fields.proofs.Taking.{reads-as, between, device-taken, link-taken, path-taken, entry-taken, timing-taken, as-item}
-use Rattle.reader.proofs.field.Tags.{none-allowed}
+use Rattle.tags.specs.laws.Tags.{none-allowed}
 use Rattle.fields.proofs.take_item.Statement.{statement}
 use Rattle.fields.proofs.take_item.Tie as tie
 

@@ -1,4 +1,4 @@
--- `items::timing::timing` meets its contract: intervals out of range leave the numbers as they are, others go into them.
+-- `intervals::timing` meets its contract: intervals out of range leave the numbers as they are, others go into them.
 -- Assumes nothing.
 use borrow.Author.Needs.{needs}
 use Rattle.intervals.proofs.Ranges.{timing-none, timing-over, timing-turned, timing-fits}

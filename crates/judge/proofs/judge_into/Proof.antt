@@ -1,4 +1,4 @@
--- `plan::load::judge_into` meets its contract: a file is too long, or has a first fault, or is judged as a whole. Assumes nothing.
+-- `judge::judge_into` meets its contract: a file is too long, or has a first fault, or is judged as a whole. Assumes nothing.
 use mathlib.Core.Path.{sym}
 use native.Mathlib.Omega.{arith}
 use borrow.Author.Needs.{needs}

@@ -1,4 +1,4 @@
--- `paths::path::path_fault` meets its contract: each test says what the row of the table asks, read off the memory of the plan.
+-- `path_faults::path_fault` meets its contract: each test says what the row of the table asks, read off the memory of the plan.
 use mathlib.Core.Path.{_≡_, sym, _∙_}
 use mathlib.Core.Logic.{⊎-elim}
 use mathlib.Core.Bool.{true, false, _&&_, and-false}

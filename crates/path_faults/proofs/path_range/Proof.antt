@@ -1,4 +1,4 @@
--- `paths::path::path_range` meets its contract: test by test.
+-- `path_faults::path_range` meets its contract: test by test.
 use mathlib.Core.Path.{sym, _∙_}
 use Rattle.path_faults.proofs.PathFaults.{range-initiator, range-target, range-links, range-ends}
 use Rattle.path_faults.proofs.path_range.Statement.{statement}

@@ -1,4 +1,4 @@
--- `paths::path::insert_row` meets its contract: the rows from k on have moved, and no row behind has a smaller initiator.
+-- `path_places::insert_row` meets its contract: the rows from k on have moved, and no row behind has a smaller initiator.
 use mathlib.Core.Path.{_≡_, refl, sym, ap, _∙_}
 use mathlib.Core.Logic.{⊎-elim}
 use mathlib.Core.List.{List}

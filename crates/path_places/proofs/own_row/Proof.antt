@@ -1,4 +1,4 @@
--- `paths::path::own_row` meets its contract: the row that is found, or the row that is made.
+-- `path_places::own_row` meets its contract: the row that is found, or the row that is made.
 use mathlib.Core.Path.{_≡_, sym, _∙_}
 use mathlib.Core.Logic.{_≢_}
 use native.Mathlib.Omega.{arith}

@@ -1,4 +1,4 @@
--- `paths::path::place_of` meets its contract: the place is between low and high.
+-- `path_places::place_of` meets its contract: the place is between low and high.
 use mathlib.Core.Path.{sym, _∙_}
 use Prim.Native.Nat.{ℕ, _-_, _≤_, _<_}
 use native.Mathlib.Omega.{arith}

@@ -1,4 +1,4 @@
--- `paths::path::stands_before` meets its contract: with the same initiator the targets decide, else the initiators.
+-- `path_places::stands_before` meets its contract: with the same initiator the targets decide, else the initiators.
 use Prim.Native.Nat.{_+_, _*_}
 use borrow.Author.Needs.{needs}
 use Rattle.plan_rules.specs.Plan.{nth}

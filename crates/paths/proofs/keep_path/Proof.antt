@@ -1,4 +1,4 @@
--- `paths::path::keep_path` meets its contract: what it calls leaves in memory, one after the other.
+-- `paths::keep_path` meets its contract: what it calls leaves in memory, one after the other.
 use mathlib.Core.Path.{_≡_, ap, _∙_}
 use Prim.Native.Nat.{_≤_}
 use native.Mathlib.Omega.{arith}

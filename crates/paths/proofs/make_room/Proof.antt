@@ -1,4 +1,4 @@
--- `paths::path::make_room` meets its contract: the bytes from n on have moved.
+-- `paths::make_room` meets its contract: the bytes from n on have moved.
 use mathlib.Core.Path.{_≡_, refl}
 use Prim.Native.Nat.{_≤_, _-_}
 use native.Mathlib.Omega.{arith}

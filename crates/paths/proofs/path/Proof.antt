@@ -1,4 +1,4 @@
--- `paths::path::path` meets its contract: a path with a fault leaves the plan, a path without one is kept.
+-- `paths::path` meets its contract: a path with a fault leaves the plan, a path without one is kept.
 use mathlib.Core.Path.{_≡_, sym, ap, _∙_}
 use borrow.Author.Needs.{needs}
 use Rattle.plan_rules.specs.Plan.{path}

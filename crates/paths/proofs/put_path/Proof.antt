@@ -1,4 +1,4 @@
--- `paths::path::put_path` meets its contract: behind the first three bytes stand the first k of the eight places for links.
+-- `paths::put_path` meets its contract: behind the first three bytes stand the first k of the eight places for links.
 use mathlib.Core.Path.{_≡_, refl, sym, _∙_}
 use mathlib.Core.Logic.{⊎-elim}
 use mathlib.Core.List.{List, [], _∷_}

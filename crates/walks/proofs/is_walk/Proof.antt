@@ -1,4 +1,4 @@
--- `paths::walk::is_walk` meets its contract: what is walked from the device reached, with the devices met, is what the whole walk is.
+-- `walks::is_walk` meets its contract: what is walked from the device reached, with the devices met, is what the whole walk is.
 use mathlib.Core.Path.{_≡_, sym, ap, _∙_}
 use mathlib.Core.Logic.{⊎-elim}
 use mathlib.Core.Option.{some}

@@ -1,4 +1,4 @@
--- `writing::out::put_four` meets its contract. Assumes nothing.
+-- `writing_items::put_four` meets its contract. Assumes nothing.
 use Rattle.plan_rules.specs.Fields.{fourBytes}
 use borrow.Author.Needs.{needs}
 use Rattle.writing_items.proofs.put_four.Statement.{statement}

@@ -1,4 +1,4 @@
--- `writing::out::put_timing` meets its contract. Assumes nothing.
+-- `writing_items::put_timing` meets its contract. Assumes nothing.
 use Rattle.writing_items.proofs.Parts.{timing-puts}
 use borrow.Author.Needs.{needs}
 use Rattle.writing_items.proofs.put_timing.Statement.{statement}

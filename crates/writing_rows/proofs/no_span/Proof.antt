@@ -1,4 +1,4 @@
--- `writing::out::no_span` meets its contract. The loop's invariant: the word joins the first j of the eight bytes. Assumes nothing.
+-- `writing_rows::no_span` meets its contract. The loop's invariant: the word joins the first j of the eight bytes. Assumes nothing.
 use Prim.Native.Nat.{_-_}
 use native.Mathlib.Omega.{arith}
 use borrow.Author.Needs.{needs}

@@ -1,4 +1,4 @@
--- `writing::out::put_eight` meets its contract. The loop's invariant: the fields of the cells from n up to j are put. Assumes nothing.
+-- `writing_rows::put_eight` meets its contract. The loop's invariant: the fields of the cells from n up to j are put. Assumes nothing.
 use mathlib.Core.Path.{_≡_}
 use Prim.Native.Nat.{ℕ, _+_, _-_, _≤_}
 use native.Mathlib.Omega.{arith}

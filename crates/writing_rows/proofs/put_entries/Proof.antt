@@ -1,4 +1,4 @@
--- `writing::out::put_entries` meets its contract. The loop's invariant: the fields of the first n cells are put. Assumes nothing.
+-- `writing_rows::put_entries` meets its contract. The loop's invariant: the fields of the first n cells are put. Assumes nothing.
 use Prim.Native.Nat.{_-_}
 use borrow.Author.Needs.{needs}
 use Rattle.writing_rows.proofs.Eights.{Eights, eights-begin, eights-next, eights-done}

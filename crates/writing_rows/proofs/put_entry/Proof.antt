@@ -1,4 +1,4 @@
--- `writing::out::put_entry` meets its contract. Assumes nothing.
+-- `writing_rows::put_entry` meets its contract. Assumes nothing.
 use native.Mathlib.Omega.{arith}
 use lib.ListN.{getD}
 use Rattle.sets.specs.Laws.{size-le}

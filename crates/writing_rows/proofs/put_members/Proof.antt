@@ -1,4 +1,4 @@
--- `writing::out::put_members` meets its contract. The loop's invariant: the members before the least that is left are put. Assumes nothing.
+-- `writing_rows::put_members` meets its contract. The loop's invariant: the members before the least that is left are put. Assumes nothing.
 use Prim.Native.Nat.{_-_}
 use native.Mathlib.Omega.{arith}
 use borrow.Author.Needs.{needs}

@@ -1,4 +1,4 @@
--- `writing::out::put_path` meets its contract. The links are those of the row, at most 255 of them. Assumes nothing.
+-- `writing_rows::put_path` meets its contract. The links are those of the row, at most 255 of them. Assumes nothing.
 use mathlib.Core.Path.{ap, _∙_, sym}
 use Prim.Native.Nat.{ℕ, _+_, _*_}
 use native.Mathlib.Omega.{arith}

@@ -1,4 +1,4 @@
--- `writing::out::put_paths` meets its contract. The loop's invariant: the fields of the first n rows are put. Assumes nothing.
+-- `writing_rows::put_paths` meets its contract. The loop's invariant: the fields of the first n rows are put. Assumes nothing.
 use Prim.Native.Nat.{_-_}
 use Rattle.writing_rows.specs.Out.{pathBytes}
 use borrow.Author.Needs.{needs}

@@ -1,4 +1,4 @@
--- `events::values_of` meets its contract. Assumes nothing.
+-- `events::values::values_of` meets its contract. Assumes nothing.
 use mathlib.Core.Path.{sym, ap}
 use borrow.Author.Needs.{needs}
 use Rattle.box_rules.specs.declared.Answer.{Answer}

@@ -1,3 +1,0 @@
-pub mod Searches
-pub mod Found
-pub mod laws

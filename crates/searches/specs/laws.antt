@@ -1,6 +1,0 @@
-pub mod Entries
-pub mod Overrun
-pub mod Cover
-pub mod Paths
-pub mod Lanes
-pub mod Clash

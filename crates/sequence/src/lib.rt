@@ -1,0 +1,37 @@
+// Whether a time-code is taken, and whether it is in sequence.
+ghost use mathlib.Core.Path.{_≡_};
+ghost use mathlib.Core.Option.{Option};
+ghost use Prim.Native.Nat.{ℕ};
+ghost use Rattle.box_rules.specs.declared.Event.the-variants.{TimeCode};
+ghost use Rattle.plan_view.specs.View.{Timed};
+ghost use Rattle.box_rules.specs.State.{Box};
+ghost use Rattle.box_rules.specs.Refuse.{refusal};
+ghost use Rattle.box_rules.specs.Turn.{inSequence};
+ghost use Rattle.initiators.specs.Run.{lastOf};
+use plan_view::interval::is_loaded;
+
+// "The first after a load is in sequence; later ones are if v is one more than the last accepted value … modulo 64."
+pub fn in_sequence(last: u8, byte: u8) -> bool
+    ensures { λ r. ⌜ ((o : Option ℕ) → last ≡ lastOf o → r ≡ inSequence o byte) ⌝ }
+{
+    if last == 0 {
+        return true;
+    }
+    byte % 64 == last % 64
+}
+
+// Refusals 20, 21 and 29 of a time-code, 0 for none.
+pub fn refuse(numbers: &[u32; 6], byte: u8, room: usize) -> u8
+    ensures { λ r. ⌜ ((b : Box) → Timed (b .plan) (now (numbers .entry)) → (clock : ℕ) → r ≡ refusal room b (TimeCode byte clock)) ⌝ }
+{
+    if !is_loaded(numbers) {
+        return 20;
+    }
+    if 64 <= byte {
+        return 21;
+    }
+    if room < 136 {
+        return 29;
+    }
+    0
+}
