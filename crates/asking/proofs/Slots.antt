@@ -3,7 +3,7 @@ use mathlib.Core.Path.{_≡_, refl, sym, ap, _∙_}
 use mathlib.Core.Logic.{by-cases}
 use mathlib.Core.List.{List, [], List·Memᴰ}
 use mathlib.Core.Option.{Option, none, some}
-use mathlib.Core.Bool.{Bool, true, false, _&&_}
+use mathlib.Core.Bool.{Bool, true, false, _&&_, _||_}
 use Prim.Native.Nat.{ℕ, _+_, _≤_, _<_}
 use native.Mathlib.Decide.{decLt}
 use native.Mathlib.Omega.{arith}
@@ -11,7 +11,7 @@ use lib.Dec.{eqb}
 use borrow.Author.Tests.{eqb-true, eq-eqb}
 use Rattle.lists.specs.Search.{any, isIn}
 use Rattle.lists.specs.Place.{atPlace}
-use Rattle.lists.specs.laws.Bools.{not-both, true-both}
+use Rattle.lists.specs.laws.Bools.{neither, not-both, true-both}
 use Rattle.lists.specs.laws.Search.{any-intro, any-none}
 use Rattle.sets.specs.Set.{member}
 use Rattle.sets.specs.Laws.{member-empty}
@@ -22,7 +22,7 @@ use Rattle.plan_rules.specs.laws.Runs.{entry-at, found-at}
 use Rattle.plan_memory.specs.Memory.{ofRow, spanOf, spansOf, aimOf, aimsOf}
 use Rattle.plan_view.specs.View.{Tells}
 use Rattle.box_rules.specs.Refuse.{mayStart}
-use Rattle.asking.specs.Sides.{Tried}
+use Rattle.asking.specs.Sides.{Tried, Barred, Lacking}
 use Rattle.plan_view.specs.laws.Entries.{spanRead, targetsRead, entry-told}
 
 -- what is read at a slot, and the answer for it
@@ -36,13 +36,7 @@ abbrev pub Permitted : ℕ → ℕ → ℕ → ℕ → Bool → Type 0
 Permitted targets span t n x = (p : Plan) (e : Entry) → Tells targets span e → x ≡ permits p e t n
 
 module _ (spans aims : List ℕ) (row t n : ℕ) where
-  -- no entry at a slot before this one permits the transaction
-  abbrev pub Barred : ℕ → Type 0
-  Barred slot =
-      (p : Plan) (i : ℕ) → Sound p → spans ≡ spansOf p → aims ≡ aimsOf p → atPlace row (initiators p) ≡ some i
-      → (v : ℕ) (e : Entry) → v < slot → entryAt (p .entries) i v ≡ some e → permits p e t n ≡ false
-
-  pub slots-begin : Barred 0
+  pub slots-begin : Barred spans aims row t n 0
   slots-begin p i ok es ea at v e h = absurd (omega arith)
 
   module _ (slot targets span : ℕ) (x : Bool) (spanned : Spanned spans row slot span) (aimed : Aimed aims row slot targets) (told : Permitted targets span t n x) where
@@ -61,7 +55,7 @@ module _ (spans aims : List ℕ) (row t n : ℕ) where
           empty : (u : ℕ) → isIn u [] ≡ member u targets
           empty u = sym (ap (member u) (aimed p ok ea ∙ here aimOf) ∙ member-empty u)
 
-    pub slots-next : Barred slot → x ≡ false → Barred (slot + 1)
+    pub slots-next : Barred spans aims row t n slot → x ≡ false → Barred spans aims row t n (slot + 1)
     slots-next before no′ p i ok es ea at v e h is =
         by-cases (decLt v slot) (λ l. before p i ok es ea at v e l is) (λ l. here (omega arith))
       where
@@ -78,7 +72,16 @@ module _ (spans aims : List ℕ) (row t n : ℕ) where
             let s = entry-at (p .entries) i slot e h in
             sym (any-intro _ (p .entries) e (s .has) (true-both (eq-eqb i (e .initiator) (sym (s .own))) (sym (some-here p i ok es ea at e h) ∙ yes′)))
 
-  pub slots-done : (slot : ℕ) → 64 ≤ slot → Barred slot → Tried spans aims row t n false
+  -- slots whose entries lack the target
+  pub slots-lack : (a b : ℕ) → Lacking aims row t a b → Barred spans aims row t n a → Barred spans aims row t n b
+  unfolding permits
+  slots-lack a b lacking before p i ok es ea at v e h is =
+      by-cases (decLt v a) (λ l. before p i ok es ea at v e l is) (λ l. here (lacking p ok ea v (omega arith) h))
+    where
+      here : member t (targetsRead p row v) ≡ false → permits p e t n ≡ false
+      here z = let told = (entry-told p ok row i at v (spanRead p row v) refl e is (targetsRead p row v) refl) .1 in rw (told .targets t, z)
+
+  pub slots-done : (slot : ℕ) → 64 ≤ slot → Barred spans aims row t n slot → Tried spans aims row t n false
   unfolding mayStart
   slots-done slot all before p i ok es ea at = sym (any-none _ (p .entries) (λ e m. go e m (eqb i (e .initiator)) refl))
     where
@@ -87,3 +90,19 @@ module _ (spans aims : List ℕ) (row t n : ℕ) where
           let z = eqb-true i (e .initiator) h in
           before p i ok es ea at (e .slot) e (omega (arith, ok .slots e m)) (rw z (found-at p ok e m))
       go e m false h = refl
+
+-- the targets of the slots from a on, before slot b, are all in a set
+abbrev pub Gathered : (aims : List ℕ) (row t a b all : ℕ) → Type 0
+Gathered aims row t a b all = member t all ≡ false → Lacking aims row t a b
+
+pub gathered-none : (aims : List ℕ) (row t a : ℕ) → Gathered aims row t a a 0
+gathered-none aims row t a z p ok ea v l h = absurd (omega arith)
+
+pub gathered-next : (aims : List ℕ) (row t a b all targets all′ : ℕ) → Aimed aims row b targets → ((k : ℕ) → member k all′ ≡ (member k all || member k targets))
+    → Gathered aims row t a b all → Gathered aims row t a (b + 1) all′
+gathered-next aims row t a b all targets all′ aimed joined before z p ok ea v l h =
+    let both = neither (member t all) (member t targets) (sym (joined t) ∙ z) in
+    by-cases (decLt v b) (λ m. before (both .0) p ok ea v l m) (λ m. here (omega arith) (both .1))
+  where
+    here : v ≡ b → member t targets ≡ false → member t (targetsRead p row v) ≡ false
+    here e f = rw e (ap (member t) (sym (aimed p ok ea)) ∙ f)

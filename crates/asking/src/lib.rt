@@ -1,7 +1,8 @@
 // A request of an initiator: whether the plan permits it, and its place in the line, refusals 25 and 26.
 ghost use mathlib.Core.Path.{_≡_};
+ghost use mathlib.Core.Bool.{true, false};
 ghost use mathlib.Core.Option.{some};
-ghost use Prim.Native.Nat.{ℕ, _<_};
+ghost use Prim.Native.Nat.{ℕ, _+_, _≤_, _<_};
 ghost use lib.ListN as lists;
 ghost use Rattle.lists.specs.Place.{atPlace};
 ghost use Rattle.plan_rules.specs.Plan.{Plan};
@@ -13,21 +14,59 @@ ghost use Rattle.box_rules.specs.Refuse.{mayStart};
 ghost use Rattle.box_rules.specs.laws.Fit.{FitSide};
 ghost use Rattle.initiators.specs.Run.{rowOf, changed, rowsWith};
 ghost use Rattle.initiators.specs.Row.{IsRow};
-ghost use Rattle.asking.specs.Sides.{askedAnswer, askedSide};
+ghost use Rattle.asking.specs.Sides.{Tried, Barred, Lacking, askedAnswer, askedSide};
 use box_rules::Answer;
 use in_line::join_row;
 use initiators::row::waiting;
 use plan_view::entry::permits;
 use plan_view::entry::span_at;
 use plan_view::entry::targets_at;
+use sets::has;
+use sets::union;
 
-// 25: some entry of the row permits the target with the length.
-pub fn may_start(spans: &[u8; 512], aims: &[u64; 512], row: usize, target: u8, length: u16) -> bool
-    ensures { λ r. ⌜ ((p : Plan) (i : ℕ) → Sound p → now (spans .entry) ≡ spansOf p → now (aims .entry) ≡ aimsOf p → atPlace row (initiators p) ≡ some i →
-        r ≡ mayStart p (p .entries) i target length) ⌝ }
+// Whether the target is none of those of the eight entries from slot `first` on.
+fn lacks(aims: &[u64; 512], row: usize, first: u8, target: u8) -> bool
+    requires { ⌜ first ≤ 56 ⌝ }
+    ensures { λ r. ⌜ (r ≡ true → Lacking (now (aims .entry)) row target first (first + 8)) ⌝ }
 {
-    let mut slot: u8 = 0;
-    while slot < 64 {
+    let end = first + 8;
+    let mut all: u64 = 0;
+    let mut slot = first;
+    while slot < end {
+        all = union(all, targets_at(aims, row, slot));
+        slot += 1;
+    }
+    !has(all, target)
+}
+
+// 25, of the eight slots from `first` on, where no entry before them permits it. The first is tried by itself: a target that is permitted
+// often is permitted there; eight that lack the target are passed over at once.
+fn may_start_in(
+    spans: &[u8; 512],
+    aims: &[u64; 512],
+    row: usize,
+    first: u8,
+    target: u8,
+    length: u16,
+) -> bool
+    requires { ⌜ first ≤ 56 ⌝ }
+    ensures { λ r. ⌜ (r ≡ true → Tried (now (spans .entry)) (now (aims .entry)) row target length true)
+        × (r ≡ false → Barred (now (spans .entry)) (now (aims .entry)) row target length first → Barred (now (spans .entry)) (now (aims .entry)) row target length (first + 8)) ⌝ }
+{
+    if permits(
+        targets_at(aims, row, first),
+        span_at(spans, row, first),
+        target,
+        length,
+    ) {
+        return true;
+    }
+    if lacks(aims, row, first, target) {
+        return false;
+    }
+    let end = first + 8;
+    let mut slot = first;
+    while slot < end {
         if permits(
             targets_at(aims, row, slot),
             span_at(spans, row, slot),
@@ -37,6 +76,21 @@ pub fn may_start(spans: &[u8; 512], aims: &[u64; 512], row: usize, target: u8, l
             return true;
         }
         slot += 1;
+    }
+    false
+}
+
+// 25: some entry of the row permits the target with the length.
+pub fn may_start(spans: &[u8; 512], aims: &[u64; 512], row: usize, target: u8, length: u16) -> bool
+    ensures { λ r. ⌜ ((p : Plan) (i : ℕ) → Sound p → now (spans .entry) ≡ spansOf p → now (aims .entry) ≡ aimsOf p → atPlace row (initiators p) ≡ some i →
+        r ≡ mayStart p (p .entries) i target length) ⌝ }
+{
+    let mut first: u8 = 0;
+    while first < 64 {
+        if may_start_in(spans, aims, row, first, target, length) {
+            return true;
+        }
+        first += 8;
     }
     false
 }

@@ -1,5 +1,6 @@
 // The watchdog's five numbers as C lends them.
 ghost use mathlib.Core.Path.{_≡_};
+ghost use mathlib.Core.Bool.{true};
 ghost use Rattle.c_numbers.specs.Five.{listedFive, watchdogOf};
 use box_rules::Watchdog;
 
@@ -16,9 +17,34 @@ pub fn watchdog_of(five: &[u32; 5]) -> Watchdog
     }
 }
 
-// The five numbers of a watchdog.
+// Whether these are its five numbers already.
+fn is_listed(five: &[u32], w: Watchdog) -> bool
+    ensures { λ r. ⌜ (r ≡ true → now (five .entry) ≡ listedFive w) ⌝ }
+{
+    if five.len() != 5 {
+        return false;
+    }
+    if five[2] != w.reported {
+        return false;
+    }
+    if five[0] != w.last {
+        return false;
+    }
+    if five[1] != w.seen {
+        return false;
+    }
+    if five[3] != w.least {
+        return false;
+    }
+    five[4] == w.greatest
+}
+
+// The five numbers of a watchdog. Where none changes nothing is stored: the next event need not wait for a store.
 pub fn put_watchdog(five: &mut [u32; 5], w: Watchdog)
     ensures { λ _. ⌜ now (five .exit) ≡ listedFive w ⌝ }
 {
+    if is_listed(five, w) {
+        return;
+    }
     *five = [w.last, w.seen, w.reported, w.least, w.greatest];
 }

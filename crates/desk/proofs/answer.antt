@@ -3,3 +3,4 @@ pub mod Rooms
 pub mod Loads
 pub mod Told
 pub mod Replies
+pub mod OverLong

@@ -34,11 +34,11 @@ pub record Loaded (file : List ℕ) (after : Kept) (printed : List ℕ) : Type 0
   pub leaves : LoadLeaves file (judge file) (after .memory) (after .five)
   pub prints : printed ≡ print.line (judge file)
 
--- an event, with a record buffer of some room that is all 0
-pub record Stepped (e : Event) (room : ℕ) (before after : Kept) (printed : List ℕ) : Type 0 where
+-- an event, with a record buffer that is lent
+pub record Stepped (e : Event) (lent : List ℕ) (before after : Kept) (printed : List ℕ) : Type 0 where
   pub answer : Answer
   pub records : List ℕ
-  pub leaves : StepLeaves (record { memory = before .memory; five = before .five; records = replicate room 0 }) e answer
+  pub leaves : StepLeaves (record { memory = before .memory; five = before .five; records = lent }) e answer
       (record { memory = after .memory; five = after .five; records = records })
   pub prints : printed ≡ eventLine e (values answer) records
 
@@ -56,10 +56,10 @@ Replied Skip line n before after printed = (after ≡ before) × (printed ≡ []
 Replied Bad line n before after printed = (after ≡ before) × (printed ≡ errorLine n)
 Replied (Load at) line n before after printed = (file : List ℕ) × (bytesOf (drop at line) ≡ some file) × Loaded file after printed
 Replied Clear line n before after printed = ClearLeaves (after .memory) (after .five) × (printed ≡ ended (text "CLEARED"))
-Replied (TimeCode byte clock room) line n before after printed = Stepped (event.TimeCode byte clock) room before after printed
-Replied (Request i t k size) line n before after printed = Stepped (event.Request i t k size) 0 before after printed
-Replied (Reply i m status) line n before after printed = Stepped (event.Reply i m status) 0 before after printed
-Replied (Reading clock) line n before after printed = Stepped (event.Reading clock) 0 before after printed
+Replied (TimeCode byte clock room) line n before after printed = Stepped (event.TimeCode byte clock) (replicate room 0) before after printed
+Replied (Request i t k size) line n before after printed = Stepped (event.Request i t k size) [] before after printed
+Replied (Reply i m status) line n before after printed = Stepped (event.Reply i m status) [] before after printed
+Replied (Reading clock) line n before after printed = Stepped (event.Reading clock) [] before after printed
 Replied (Out room) line n before after printed = (after ≡ before) × WrittenOut room (before .memory) printed
 Replied Watchdog line n before after printed = (after ≡ before) × (printed ≡ watchdogLine (before .five))
 Replied (SetWatchdog last seen reported least greatest) line n before after printed =

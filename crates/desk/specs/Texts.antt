@@ -1,9 +1,9 @@
 -- The lines that a script's commands print, as REPLAY.md's table has them.
 use mathlib.Core.Path.{_≡_}
 use mathlib.Core.List.{List, [], _∷_, _++_}
-use mathlib.Core.Bool.{cond}
+use mathlib.Core.Bool.{true, false, cond}
 use Prim.Native.Nat.{ℕ, _*_}
-use lib.ListN.{length, take, drop}
+use lib.ListN.{length, getD, take, drop}
 use lib.Dec.{eqb}
 use Rattle.plan_rules.specs.Print.{text, decimal}
 use Rattle.plan_rules.specs.Copy.{Sized}
@@ -21,6 +21,10 @@ ended s = s ++ (10 ∷ [])
 -- "`ERROR line N`"
 unfoldable pub errorLine : ℕ → List ℕ
 errorLine n = ended (text "ERROR line " ++ decimal n)
+
+-- a line that is longer than its reader takes is no command: "one that begins with `#` is skipped"
+unfoldable pub overLongLine : List ℕ → ℕ → List ℕ
+overLongLine line n = elim (eqb (getD line 0 0) 35) [ true ↦ [] | false ↦ errorLine n ]
 
 -- numbers, and numbers with bytes behind them
 unfoldable pub numbersLine : List ℕ → List ℕ

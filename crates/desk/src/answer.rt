@@ -1,10 +1,11 @@
 // One line of a script answered: the box and the five numbers go on from command to command.
 ghost use mathlib.Core.Path.{_≡_};
 ghost use Prim.Native.Nat.{ℕ, _≤_};
-ghost use lib.ListN.{replicate};
-ghost use mathlib.Core.List.{List};
+ghost use lib.ListN.{length, replicate};
+ghost use mathlib.Core.List.{List, []};
 ghost use Rattle.calls.specs.Calls.{memory};
 ghost use Rattle.script.specs.Script.{decoded, commandOf};
+ghost use Rattle.desk.specs.Texts.{overLongLine, Prints};
 ghost use Rattle.desk.specs.Replay.{kept, Loaded, Stepped, WrittenOut, Replied, Answers};
 use crate::texts::put_copied;
 use crate::texts::put_error;
@@ -88,8 +89,48 @@ fn load(
     Answered { end, watchdog }
 }
 
-// An event with a record buffer of some room.
+// An event with a record buffer.
 fn step(
+    rows: &[u8; 8],
+    spans: &[u8; 512],
+    aims: &[u64; 512],
+    numbers: &[u32; 6],
+    run: &mut [u64; 96],
+    last: &mut [u8; 1],
+    watchdog: Watchdog,
+    event: Event,
+    records: &mut [u8],
+    out: &mut [u8; 65600],
+) -> Answered
+    requires { ⌜ length (now records) ≤ 4_096 ⌝ }
+    ensures { λ r. ⌜ ((sets ends reach paths : List ℕ) → Answers (Stepped event (now (records .entry))
+        (kept (memory sets ends (now (rows .entry)) reach paths (now (spans .entry)) (now (aims .entry)) (now (numbers .entry)) (now (run .entry)) (now (last .entry))) watchdog)
+        (kept (memory sets ends (now (rows .entry)) reach paths (now (spans .entry)) (now (aims .entry)) (now (numbers .entry)) (now (run .exit)) (now (last .exit))) (r .watchdog)))
+        (now (out .entry)) (now (out .exit)) (r .end)) ⌝ }
+{
+    let done = step_with(
+        rows,
+        spans,
+        aims,
+        numbers,
+        run,
+        last,
+        watchdog,
+        event,
+        records,
+    );
+    let answer = done.answer;
+    let after = done.watchdog;
+    let values = values_of(answer);
+    let end = put_event(out, event, &values, records);
+    Answered {
+        end,
+        watchdog: after,
+    }
+}
+
+// A time-code is lent a record buffer of some room; the other events write no records and are lent none.
+fn with_records(
     rows: &[u8; 8],
     spans: &[u8; 512],
     aims: &[u64; 512],
@@ -102,13 +143,13 @@ fn step(
     out: &mut [u8; 65600],
 ) -> Answered
     requires { ⌜ room ≤ 4_096 ⌝ }
-    ensures { λ r. ⌜ ((sets ends reach paths : List ℕ) → Answers (Stepped event room
+    ensures { λ r. ⌜ ((sets ends reach paths : List ℕ) → Answers (Stepped event (replicate room 0)
         (kept (memory sets ends (now (rows .entry)) reach paths (now (spans .entry)) (now (aims .entry)) (now (numbers .entry)) (now (run .entry)) (now (last .entry))) watchdog)
         (kept (memory sets ends (now (rows .entry)) reach paths (now (spans .entry)) (now (aims .entry)) (now (numbers .entry)) (now (run .exit)) (now (last .exit))) (r .watchdog)))
         (now (out .entry)) (now (out .exit)) (r .end)) ⌝ }
 {
     let mut records = records_room();
-    let done = step_with(
+    step(
         rows,
         spans,
         aims,
@@ -118,15 +159,39 @@ fn step(
         watchdog,
         event,
         &mut records[..room],
-    );
-    let answer = done.answer;
-    let after = done.watchdog;
-    let values = values_of(answer);
-    let end = put_event(out, event, &values, &records[..room]);
-    Answered {
-        end,
-        watchdog: after,
-    }
+        out,
+    )
+}
+
+fn without_records(
+    rows: &[u8; 8],
+    spans: &[u8; 512],
+    aims: &[u64; 512],
+    numbers: &[u32; 6],
+    run: &mut [u64; 96],
+    last: &mut [u8; 1],
+    watchdog: Watchdog,
+    event: Event,
+    out: &mut [u8; 65600],
+) -> Answered
+    ensures { λ r. ⌜ ((sets ends reach paths : List ℕ) → Answers (Stepped event []
+        (kept (memory sets ends (now (rows .entry)) reach paths (now (spans .entry)) (now (aims .entry)) (now (numbers .entry)) (now (run .entry)) (now (last .entry))) watchdog)
+        (kept (memory sets ends (now (rows .entry)) reach paths (now (spans .entry)) (now (aims .entry)) (now (numbers .entry)) (now (run .exit)) (now (last .exit))) (r .watchdog)))
+        (now (out .entry)) (now (out .exit)) (r .end)) ⌝ }
+{
+    let mut none = [0u8; 0];
+    step(
+        rows,
+        spans,
+        aims,
+        numbers,
+        run,
+        last,
+        watchdog,
+        event,
+        &mut none,
+        out,
+    )
 }
 
 // The plan written out into some room.
@@ -160,6 +225,19 @@ fn write_out(
         &mut buffer[..room],
     );
     put_copied(out, copied, &buffer[..room])
+}
+
+// A line of which only the front is there, because it is longer than its reader takes: what it prints stands at the front of out.
+pub fn over_long(line: &[u8], number: u64, out: &mut [u8; 65600]) -> usize
+    ensures { λ r. ⌜ Prints (overLongLine (now (line .entry)) number) (now (out .entry)) (now (out .exit)) r ⌝ }
+{
+    if line.len() == 0 {
+        return put_error(out, number);
+    }
+    if line[0] == b'#' {
+        return 0;
+    }
+    put_error(out, number)
 }
 
 // One line of a script: what it prints stands at the front of out, and the box and the five numbers are those after it.
@@ -224,7 +302,7 @@ pub fn answer(
         }
         Command::TimeCode { byte, clock, room } => {
             let event = Event::TimeCode { byte, clock };
-            step(
+            with_records(
                 rows,
                 spans,
                 aims,
@@ -249,18 +327,7 @@ pub fn answer(
                 kind,
                 length,
             };
-            step(
-                rows,
-                spans,
-                aims,
-                numbers,
-                run,
-                last,
-                watchdog,
-                event,
-                0,
-                out,
-            )
+            without_records(rows, spans, aims, numbers, run, last, watchdog, event, out)
         }
         Command::Reply {
             initiator,
@@ -272,33 +339,11 @@ pub fn answer(
                 number: transaction,
                 status,
             };
-            step(
-                rows,
-                spans,
-                aims,
-                numbers,
-                run,
-                last,
-                watchdog,
-                event,
-                0,
-                out,
-            )
+            without_records(rows, spans, aims, numbers, run, last, watchdog, event, out)
         }
         Command::Reading { clock } => {
             let event = Event::Reading { clock };
-            step(
-                rows,
-                spans,
-                aims,
-                numbers,
-                run,
-                last,
-                watchdog,
-                event,
-                0,
-                out,
-            )
+            without_records(rows, spans, aims, numbers, run, last, watchdog, event, out)
         }
         Command::Out { room } => {
             let end = write_out(

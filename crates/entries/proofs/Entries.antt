@@ -1,26 +1,27 @@
 -- An entry after a plan: the verdict on it, and spans, aims and numbers with it, for each way that the code goes.
-use mathlib.Core.Path.{_≡_, refl, sym, _∙_}
-use mathlib.Core.List.{List, [], _∷_, List·Memᴰ}
+use mathlib.Core.Path.{_≡_, refl, sym, ap, _∙_}
+use mathlib.Core.List.{List, [], _∷_, List·Memᴰ, List·Memᴰ·head}
 use mathlib.Core.Option.{some}
-use mathlib.Core.Bool.{Bool, true, false, _&&_, and-true, and-false, or-true}
+use mathlib.Core.Bool.{Bool, true, false, _&&_, cond, and-true, and-false, or-true}
 use Prim.Native.Nat.{ℕ, _+_, _*_, _%_, _^_, _≤_, _<_, min}
 use native.Mathlib.Omega.{arith}
 use native.Mathlib.Decide.{decLt}
 use lib.ListN.{length, set}
 use lib.Dec.{eqb}
-use borrow.Author.Tests.{eqb-true, lt-ltb}
+use borrow.Author.Tests.{eqb-true, lt-ltb, not-false}
 use Rattle.lists.specs.Search.{any, all, isIn, twice}
 use Rattle.lists.specs.Numbers.{firstFrom}
 use Rattle.lists.specs.Place.{atPlace}
-use Rattle.lists.specs.laws.Bools.{both-true, false-either, not-both}
-use Rattle.lists.specs.laws.Search.{any-none}
+use Rattle.lists.specs.laws.Bools.{both-true, true-both, false-either, not-both}
+use Rattle.lists.specs.laws.Search.{any-none, any-elim, all-elim, all-intro}
 use Rattle.lists.specs.laws.More.{all-same}
 use Rattle.sets.specs.Set.{member, listed}
 use Rattle.sets.specs.Packed.{packed-is, member-packed-below}
-use Rattle.plan_rules.specs.Plan.{nth, Entry, Plan, entry}
-use Rattle.plan_rules.specs.Meaning.{isNode, isInitiator, initiators, hasPath, standsAt}
+use Rattle.plan_rules.specs.Plan.{nth, Entry, Plan, path, entry}
+use Rattle.plan_rules.specs.Meaning.{isNode, isLink, isInitiator, initiators, leadsFrom, hasPath, standsAt}
 use Rattle.plan_rules.specs.Judge.{outOfRange, givenBefore, notGiven, tooMany, noWalk, noPath}
 use Rattle.plan_rules.specs.laws.Fair.{Fair}
+use Rattle.plan_rules.specs.laws.Items.{path-in}
 use Rattle.plan_rules.specs.laws.Ranges.{EntryRange, entry-range}
 use Rattle.plan_rules.specs.laws.Entries.{path-initiator, entry-ranges, entry-initiator, entries-most}
 use Rattle.plan_memory.specs.Memory.{setsOf, rowsOf, reachOf, spansOf, aimsOf, numbersWith}
@@ -67,12 +68,6 @@ pub record Free (m : Lent) (x : Entry) (r : ℕ) : Type 0 where
   pub sought : Sought m x r
   pub alone : r < rowsIn m → nth (m .spans) (r * 64 + x .slot) ≡ 0
   pub once : twice (x .targets) ≡ false
-
--- further: initiator and targets are nodes
-pub record Known (m : Lent) (x : Entry) (r : ℕ) : Type 0 where
-  pub free : Free m x r
-  pub from : member (x .initiator) (nth (m .sets) 0) ≡ true
-  pub to : allIn (nth (m .sets) 0) (x .targets) ≡ true
 
 -- what the arrays tell if they hold the fair plan p
 record Holding (m : Lent) (size : ℕ) (p : Plan) : Type 0 where
@@ -163,54 +158,62 @@ module _ {m : Lent} {x : Entry} {r : ℕ} (s : Sought m x r) where
   unfolding givenBefore
   entry-twice h = refused m x 7 (λ size p held. judged-7 p (entry x) (s .inside) (rw h (or-true (any (standsAt (x .initiator) (x .slot)) (p .entries)))))
 
--- row 8: the initiator or a target is no node
+-- who has a path is a node, and so is whom it leads to
+path-nodes : (p : Plan) → Fair p → (i t : ℕ) → hasPath p i t ≡ true → (isNode p i ≡ true) × (isNode p t ≡ true)
+unfolding hasPath leadsFrom notGiven
+path-nodes p f i t h =
+    let (y, k, e) = any-elim (leadsFrom i t) (p .paths) h in
+    let (a, b) = both-true (eqb i (y .initiator)) (eqb t (y .target)) e in
+    let (c, _) = both-true (isNode p (y .initiator) && isNode p (y .target)) (all (isLink p) (y .links)) (not-false _ (f .known (path y) (path-in p y k))) in
+    let (d, g) = both-true (isNode p (y .initiator)) (isNode p (y .target)) c in
+    (ap (isNode p) (eqb-true i (y .initiator) a) ∙ d, ap (isNode p) (eqb-true t (y .target) b) ∙ g)
+
+all-nodes : (p : Plan) → Fair p → (i : ℕ) (ts : List ℕ) → 0 < length ts → all (hasPath p i) ts ≡ true → isNode p i && all (isNode p) ts ≡ true
+unfolding all
+all-nodes p f i [] l h = absurd (omega arith)
+all-nodes p f i (t ∷ ts) l h =
+    true-both ((path-nodes p f i t (all-elim (hasPath p i) (t ∷ ts) t h (List·Memᴰ·head refl))) .0)
+    (all-intro (isNode p) (t ∷ ts) (λ u k. (path-nodes p f i u (all-elim (hasPath p i) (t ∷ ts) u h k)) .1))
+
 module _ {m : Lent} {x : Entry} {r : ℕ} (s : Free m x r) where
   new : (size : ℕ) (p : Plan) → Holding m size p → givenBefore p (entry x) ≡ false
   unfolding givenBefore
   new size p held = false-either (nobody m x r (s .sought) size p held (s .alone)) (s .once)
 
-  pub entry-from-none : member (x .initiator) (nth (m .sets) 0) ≡ false → EntryAnswer m (m .spans) (m .aims) (m .numbers) x 8
-  unfolding notGiven
-  entry-from-none h = refused m x 8 (λ size p held. judged-8 p (entry x) (s .sought .inside) (new size p held) (rw (node m x r (s .sought) size p held false h)))
-
-  pub entry-to-none : allIn (nth (m .sets) 0) (x .targets) ≡ false → EntryAnswer m (m .spans) (m .aims) (m .numbers) x 8
-  unfolding notGiven
-  entry-to-none h =
+  -- rows 8 and 11: a target is not reached
+  missing : (b c : Bool) → member (x .initiator) (nth (m .sets) 0) ≡ b → allIn (nth (m .sets) 0) (x .targets) ≡ c
+      → ((size : ℕ) (p : Plan) → Holding m size p → all (hasPath p (x .initiator)) (x .targets) ≡ false)
+      → EntryAnswer m (m .spans) (m .aims) (m .numbers) x (cond (b && c) 11 8)
+  unfolding notGiven tooMany noWalk noPath
+  missing true true h g f =
+      refused m x 11 (λ size p held. judged-11 p (entry x) (s .sought .inside) (new size p held)
+      (rw (node m x r (s .sought) size p held true h, nodes m x r (s .sought) size p held true g)) refl refl (rw (f size p held)))
+  missing true false h g f =
       refused m x 8 (λ size p held. judged-8 p (entry x) (s .sought .inside) (new size p held)
-      (rw (nodes m x r (s .sought) size p held false h, and-false (isNode p (x .initiator)))))
+      (rw (nodes m x r (s .sought) size p held false g, and-false (isNode p (x .initiator)))))
+  missing false c h g f = refused m x 8 (λ size p held. judged-8 p (entry x) (s .sought .inside) (new size p held) (rw (node m x r (s .sought) size p held false h)))
 
--- row 11: the initiator has no path at all, or none to a target; else the entry is taken
-module _ {m : Lent} {x : Entry} {r : ℕ} (s : Known m x r) where
-  sought : Sought m x r
-  sought = s .free .sought
+  module _ (n : ℕ) (is : n ≡ cond (member (x .initiator) (nth (m .sets) 0) && allIn (nth (m .sets) 0) (x .targets)) 11 8) where
+    pub entry-no-row : rowsIn m ≤ r → 0 < length (x .targets) → EntryAnswer m (m .spans) (m .aims) (m .numbers) x n
+    entry-no-row h l = rw is (missing _ _ refl refl (λ size p held. no-paths p (x .initiator) (no-row m x r (s .sought) size p held h) (x .targets) l))
 
-  known : (size : ℕ) (p : Plan) → Holding m size p → notGiven p (entry x) ≡ false
-  unfolding notGiven
-  known size p held = rw (node m x r sought size p held true (s .from), nodes m x r sought size p held true (s .to))
-
-  without : ((size : ℕ) (p : Plan) → Holding m size p → all (hasPath p (x .initiator)) (x .targets) ≡ false) → EntryAnswer m (m .spans) (m .aims) (m .numbers) x 11
-  unfolding tooMany noWalk noPath
-  without f = refused m x 11 (λ size p held. judged-11 p (entry x) (sought .inside) (new (s .free) size p held) (known size p held) refl refl (rw (f size p held)))
-
-  pub entry-no-row : rowsIn m ≤ r → 0 < length (x .targets) → EntryAnswer m (m .spans) (m .aims) (m .numbers) x 11
-  entry-no-row h l = without (λ size p held. no-paths p (x .initiator) (no-row m x r sought size p held h) (x .targets) l)
-
-  pub entry-no-path : r < rowsIn m → allIn (nth (m .reach) r) (x .targets) ≡ false → EntryAnswer m (m .spans) (m .aims) (m .numbers) x 11
-  entry-no-path h e = without (λ size p held. paths m x r sought size p held h false e)
+    pub entry-no-path : r < rowsIn m → allIn (nth (m .reach) r) (x .targets) ≡ false → EntryAnswer m (m .spans) (m .aims) (m .numbers) x n
+    entry-no-path h e = rw is (missing _ _ refl refl (λ size p held. paths m x r (s .sought) size p held h false e))
 
   -- the word w is the set of the targets, and n the sum that the machine computes
-  pub entry-taken : r < rowsIn m → allIn (nth (m .reach) r) (x .targets) ≡ true
+  pub entry-taken : 0 < length (x .targets) → r < rowsIn m → allIn (nth (m .reach) r) (x .targets) ≡ true
       → (w : ℕ) → w < 2 ^ 64 → ((k : ℕ) → member k w ≡ listed (x .targets) k) → (n : ℕ) → n ≡ (nth (m .numbers) 4 + 1) % 2 ^ 32
       → EntryAnswer m (set (m .spans) (r * 64 + x .slot) (x .span)) (set (m .aims) (r * 64 + x .slot) w) (set (m .numbers) 4 n) x 0
-  unfolding tooMany noWalk noPath
-  entry-taken h e w fits is n sum size p fair sets rows reach spans aims numbers =
+  unfolding notGiven tooMany noWalk noPath
+  entry-taken l h e w fits is n sum size p fair sets rows reach spans aims numbers =
       let held : Holding m size p = record { fair = fair; sets = sets; rows = rows; reach = reach; spans = spans; aims = aims; numbers = numbers } in
-      let j = judged-0 p (entry x) (sought .inside) (new (s .free) size p held) (known size p held) refl refl (rw (paths m x r sought size p held h true e)) in
+      let reached = paths m x r (s .sought) size p held h true e in
+      let j = judged-0 p (entry x) (s .sought .inside) (new size p held) (rw (all-nodes p fair (x .initiator) (x .targets) l reached)) refl refl (rw reached) in
       let most = entries-most p (fair .lengths) (fair .ranges) (fair .reached) (fair .lists .entries .once) (fair .lists .paths .eight) in
       let word = packed-is w (λ (t : ℕ). isIn t (x .targets)) fits (λ k l. is k ∙ rw (lt-ltb k 64 l) (and-true (isIn k (x .targets)))) in
-      let below = (entry-range x (sought .inside)) .slot in
-      let here = row m x r sought size p held h in
-      let alone = nobody m x r sought size p held (s .free .alone) in (
+      let below = (entry-range x (s .sought .inside)) .slot in
+      let here = row m x r (s .sought) size p held h in
+      let alone = nobody m x r (s .sought) size p held (s .alone) in (
         j .fault,
         holds-taken spansOf j _ (spans-entry p r x here (omega arith) below alone (m .spans) spans),
         holds-taken aimsOf j _ (aims-entry p r x here (omega arith) below alone (m .aims) aims w word),

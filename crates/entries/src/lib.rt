@@ -1,10 +1,12 @@
 // An entry: judged after the plan so far, and put at its row and slot.
 ghost use mathlib.Core.Path.{_≡_};
-ghost use mathlib.Core.List.{List};
+ghost use mathlib.Core.List.{List, List·Memᴰ};
+ghost use mathlib.Core.Bool.{_&&_, cond};
 ghost use Prim.Native.Nat.{ℕ, _<_};
 ghost use lib.ListN.{length};
-ghost use Rattle.lists.specs.Search.{any};
-ghost use Rattle.plan_rules.specs.Plan.{Plan};
+ghost use Rattle.lists.specs.Search.{any, all};
+ghost use Rattle.sets.specs.Set.{member, listed};
+ghost use Rattle.plan_rules.specs.Plan.{nth, Plan};
 ghost use Rattle.plan_rules.specs.Judge.{over63, outOfRange};
 ghost use Rattle.plan_rules.specs.laws.Fair.{Fair};
 ghost use Rattle.plan_memory.specs.Memory.{setsOf, rowsOf, reachOf, spansOf, aimsOf, numbersWith};
@@ -30,6 +32,22 @@ fn entry_range(initiator: u8, slot: u8, span: u8, over: bool) -> bool
         return true;
     }
     over
+}
+
+// The verdict on an entry with a target that its initiator has no path to: 8 where one of them is no node, else 11. (Who has a path, and whom
+// it leads to, are nodes: so a verdict 8 need not be looked for before.)
+fn not_reached(sets: &[u64; 3], initiator: u8, targets: u64) -> u8
+    ensures { λ r. ⌜ ((xs : List ℕ) → ((x : ℕ) → List·Memᴰ x xs → x < 64) → ((k : ℕ) → member k targets ≡ listed xs k) →
+        r ≡ cond (member initiator (nth (now (sets .entry)) 0) && all (λ (x : ℕ). member x (nth (now (sets .entry)) 0)) xs) 11 8) ⌝ }
+{
+    let nodes = sets[0];
+    if !sets::has(nodes, initiator) {
+        return 8;
+    }
+    if !sets::within(targets, nodes) {
+        return 8;
+    }
+    11
 }
 
 // The verdict on the entry, 0 for none, and then spans, aims and numbers have it. An entry has a target at least.
@@ -69,18 +87,11 @@ pub fn entry(
     if g.again {
         return 7;
     }
-    let nodes = sets[0];
-    if !sets::has(nodes, initiator) {
-        return 8;
-    }
-    if !sets::within(g.set, nodes) {
-        return 8;
-    }
     if !known {
-        return 11;
+        return not_reached(sets, initiator, g.set);
     }
     if !sets::within(g.set, reach[row]) {
-        return 11;
+        return not_reached(sets, initiator, g.set);
     }
     spans[at] = span;
     aims[at] = g.set;

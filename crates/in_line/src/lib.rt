@@ -72,16 +72,31 @@ pub fn find_row(row: &[u64], targets: u64, span: u8) -> usize
 }
 
 // The eight places once the one at place k has left: those behind move up, and the last is 0.
+fn shift(places: &mut [u64], k: usize)
+    requires { ⌜ (length (now places) ≡ 8) × (k < 8) ⌝ }
+    ensures { λ r. ⌜ now (places .exit) ≡ without k (now (places .entry)) ++ 0 ∷ [] ⌝ }
+{
+    let mut j = 0;
+    while j < 7 {
+        let next = j + 1;
+        if k <= j {
+            places[j] = places[next];
+        }
+        j = next;
+    }
+    places[7] = 0;
+}
+
+// The same. Most often the oldest leaves, and for place 0 the compiler makes one move of all places, with no test.
 fn move_up(places: &mut [u64], k: usize)
     requires { ⌜ (length (now places) ≡ 8) × (k < 8) ⌝ }
     ensures { λ r. ⌜ now (places .exit) ≡ without k (now (places .entry)) ++ 0 ∷ [] ⌝ }
 {
-    let mut j = k;
-    while j < 7 {
-        places[j] = places[j + 1];
-        j += 1;
+    if k == 0 {
+        shift(places, 0);
+        return;
     }
-    places[7] = 0;
+    shift(places, k);
 }
 
 // The request at place k leaves the line.

@@ -6,13 +6,12 @@ ghost use Rattle.lists.specs.Numbers.{firstFrom};
 ghost use Rattle.plan_rules.specs.Plan.{nth};
 use plan_memory::at_most;
 
-// The row of initiator i among the first count rows (8 at most); that count where it has none.
-pub fn row_of(rows: &[u8; 8], count: u32, i: u8) -> usize
-    ensures { λ r. ⌜ r ≡ firstFrom (min count 8) 0 (λ (k : ℕ). eqb i (nth (now (rows .entry)) k)) ⌝ }
+// The first of all eight rows that has initiator i; 8 where none has it.
+fn first_row(rows: &[u8; 8], i: u8) -> usize
+    ensures { λ r. ⌜ r ≡ firstFrom 8 0 (λ (k : ℕ). eqb i (nth (now (rows .entry)) k)) ⌝ }
 {
-    let most = at_most(count, 8);
     let mut k = 0;
-    while k < most {
+    while k < 8 {
         let b = rows[k];
         if b == i {
             return k;
@@ -20,4 +19,13 @@ pub fn row_of(rows: &[u8; 8], count: u32, i: u8) -> usize
         k += 1;
     }
     k
+}
+
+// The row of initiator i among the first count rows (8 at most); that count where it has none. (The count is looked at once, at the end.)
+pub fn row_of(rows: &[u8; 8], count: u32, i: u8) -> usize
+    ensures { λ r. ⌜ r ≡ firstFrom (min count 8) 0 (λ (k : ℕ). eqb i (nth (now (rows .entry)) k)) ⌝ }
+{
+    let most = at_most(count, 8);
+    let k = first_row(rows, i);
+    if most < k { most } else { k }
 }

@@ -26,10 +26,10 @@ pub fn put(out: &mut [u8], at: usize, s: &[u8]) -> usize
     ensures { λ r. ⌜ Puts (now (out .entry)) at (now (s .entry)) (now (out .exit)) r ⌝ }
 {
     let room = out.len();
-    if room < at {
+    if room < s.len() {
         return at;
     }
-    if room - at < s.len() {
+    if room - s.len() < at {
         return at;
     }
     put_bytes(out, at, s)

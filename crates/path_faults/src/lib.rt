@@ -9,8 +9,7 @@ ghost use Rattle.plan_rules.specs.laws.Fair.{Fair};
 ghost use Rattle.plan_memory.specs.Memory.{setsOf, endsOf, rowsOf, reachOf, numbersWith};
 ghost use Rattle.plan_memory.specs.Take.{itemFault, pathItem};
 ghost use Rattle.items.specs.Rows.{rowAmong};
-use items::several::gather;
-use walks::is_walk;
+use walks::trace;
 
 // Verdict 6 of a path, over being whether a link is over 63.
 fn path_range(initiator: u8, target: u8, over: bool) -> bool
@@ -47,8 +46,8 @@ pub fn path_fault(
         r ≡ itemFault p (pathItem initiator target (now (links .entry)))) ⌝ }
     ensures { λ r. ⌜ (r ≡ 0 → (row < 8) × (nth (now (numbers .entry)) 3 < 128)) ⌝ }
 {
-    let g = gather(links);
-    if path_range(initiator, target, g.over) {
+    let t = trace(sets, ends, initiator, links, target);
+    if path_range(initiator, target, t.over) {
         return 6;
     }
     if row < 8 {
@@ -63,7 +62,7 @@ pub fn path_fault(
     if !sets::has(nodes, target) {
         return 8;
     }
-    if !sets::within(g.set, sets[2]) {
+    if !sets::within(t.set, sets[2]) {
         return 8;
     }
     if 8 <= row {
@@ -72,7 +71,7 @@ pub fn path_fault(
     if 128 <= numbers[3] {
         return 9;
     }
-    if !is_walk(sets, ends, initiator, links, target) {
+    if !t.walk {
         return 10;
     }
     0

@@ -1,12 +1,13 @@
 // Records, put into a lent buffer one behind the other. Nothing is stored where there is no room.
 ghost use mathlib.Core.Path.{_≡_};
 ghost use mathlib.Core.List.{flatMap};
-ghost use Prim.Native.Nat.{ℕ};
+ghost use Prim.Native.Nat.{ℕ, _+_, _*_, _/_, _%_, _<_};
 ghost use Rattle.lists.specs.Puts.{Puts};
 ghost use Rattle.box_rules.specs.State.{Request};
 ghost use Rattle.box_rules.specs.Records.{recordBytes, plain, full, watchdogRecord, sequenceRecord};
 ghost use Rattle.box_rules.specs.laws.Fit.{FitRequest};
 ghost use Rattle.initiators.specs.Run.{wordOf};
+ghost use Rattle.records.specs.Bytes.{bytesOf};
 use box_rules::Watchdog;
 use line::print::put;
 use watchdog::watch::is_early;
@@ -20,24 +21,41 @@ fn put_plain(out: &mut [u8], at: usize, kind: u8, v: u8) -> usize
     put(out, at, &bytes)
 }
 
-// "kinds 4 to 6 fill all": of the request of a word.
+// The eight bytes of a word, the lowest first: one store for the compiler.
+fn put_word(out: &mut [u8], at: usize, word: u64) -> usize
+    ensures { λ r. ⌜ Puts (now (out .entry)) at (bytesOf word) (now (out .exit)) r ⌝ }
+{
+    let bytes = [
+        (word % 256) as u8,
+        (word / 256 % 256) as u8,
+        (word / 65_536 % 256) as u8,
+        (word / 16_777_216 % 256) as u8,
+        (word / 4_294_967_296 % 256) as u8,
+        (word / 1_099_511_627_776 % 256) as u8,
+        (word / 281_474_976_710_656 % 256) as u8,
+        (word / 72_057_594_037_927_936 % 256) as u8,
+    ];
+    put(out, at, &bytes)
+}
+
+// The four low bytes of a word in the other order.
+fn swapped(word: u64) -> u64
+    ensures { λ r. ⌜ (r ≡ word / 16777216 % 256 + word / 65536 % 256 * 256 + word / 256 % 256 * 65536 + word % 256 * 16777216) × (r < 4294967296) ⌝ }
+{
+    word / 16_777_216 % 256
+        + word / 65_536 % 256 * 256
+        + word / 256 % 256 * 65_536
+        + word % 256 * 16_777_216
+}
+
+// "kinds 4 to 6 fill all": of the request of a word. Number and length stand in it one above the other, high byte last.
 pub fn put_full(out: &mut [u8], at: usize, kind: u8, initiator: u8, v: u8, word: u64) -> usize
     ensures { λ r. ⌜ ((clock : ℕ) (x : Request) → FitRequest x → word ≡ wordOf x → Puts (now (out .entry)) at (recordBytes clock (full kind initiator v x)) (now (out .exit)) r) ⌝ }
 {
-    let target = (word % 256) as u8;
-    let length = word / 65_536 % 65_536;
-    let number = word / 4_294_967_296 % 65_536;
-    let bytes = [
-        kind,
-        initiator,
-        target,
-        v,
-        (number / 256) as u8,
-        (number % 256) as u8,
-        (length / 256) as u8,
-        (length % 256) as u8,
-    ];
-    put(out, at, &bytes)
+    let head = (kind as u64 + v as u64 * 16_777_216)
+        + (initiator as u64 * 256 + word % 256 * 65_536);
+    let tail = swapped(word / 65_536);
+    put_word(out, at, head + tail * 4_294_967_296)
 }
 
 // 1. "watchdog: kind 1 early …, else kind 2 late"

@@ -1,1 +1,2 @@
+pub mod Unlike
 pub mod Walks

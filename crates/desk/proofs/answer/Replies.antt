@@ -3,7 +3,7 @@ use mathlib.Core.Path.{_≡_, refl, sym, _∙_}
 use mathlib.Core.List.{List, []}
 use mathlib.Core.Option.{some}
 use Prim.Native.Nat.{ℕ, _-_, _≤_}
-use lib.ListN.{length, take, drop}
+use lib.ListN.{length, take, drop, replicate}
 use Rattle.lists.specs.laws.Parts.{from-to-end}
 use Rattle.plan_rules.specs.Print.{text}
 use Rattle.box_rules.specs.declared.Event.the-variants as event
@@ -62,22 +62,22 @@ module _ (line : List ℕ) (n : ℕ) {c : Command} (e : c ≡ commandOf line) wh
       unfolding Replied
       clear f h p = rw (is f) (record { printed = ended (text "CLEARED"); told = (h, refl); prints = p })
 
-      pub time-code : {byte clock room : ℕ} → c ≡ TimeCode byte clock room → Answers (Stepped (event.TimeCode byte clock) room k after) l o end
+      pub time-code : {byte clock room : ℕ} → c ≡ TimeCode byte clock room → Answers (Stepped (event.TimeCode byte clock) (replicate room 0) k after) l o end
           → Answers (Replied (commandOf line) line n k after) l o end
       unfolding Replied
       time-code f a = rw (is f) a
 
-      pub request : {i t m size : ℕ} → c ≡ Request i t m size → Answers (Stepped (event.Request i t m size) 0 k after) l o end
+      pub request : {i t m size : ℕ} → c ≡ Request i t m size → Answers (Stepped (event.Request i t m size) [] k after) l o end
           → Answers (Replied (commandOf line) line n k after) l o end
       unfolding Replied
       request f a = rw (is f) a
 
-      pub reply : {i m status : ℕ} → c ≡ Reply i m status → Answers (Stepped (event.Reply i m status) 0 k after) l o end
+      pub reply : {i m status : ℕ} → c ≡ Reply i m status → Answers (Stepped (event.Reply i m status) [] k after) l o end
           → Answers (Replied (commandOf line) line n k after) l o end
       unfolding Replied
       reply f a = rw (is f) a
 
-      pub reading : {clock : ℕ} → c ≡ Reading clock → Answers (Stepped (event.Reading clock) 0 k after) l o end → Answers (Replied (commandOf line) line n k after) l o end
+      pub reading : {clock : ℕ} → c ≡ Reading clock → Answers (Stepped (event.Reading clock) [] k after) l o end → Answers (Replied (commandOf line) line n k after) l o end
       unfolding Replied
       reading f a = rw (is f) a
 

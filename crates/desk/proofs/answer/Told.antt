@@ -14,21 +14,24 @@ use Rattle.box_rules.specs.Answer.{Values, values}
 use Rattle.events.specs.Values.{listed}
 use Rattle.calls.specs.Calls.{Memory, memory, withRun, Steps, StepLeaves}
 use Rattle.desk.specs.Texts.{eventLine, outLine, Prints}
-use Rattle.desk.specs.Replay.{kept, Stepped, HeldIn, WrittenOut, Answers}
+use Rattle.desk.specs.Replay.{Kept, kept, Stepped, HeldIn, WrittenOut, Answers}
 use Rattle.desk.proofs.answer.Rooms.{zeros, lent-size, back}
 
-pub step-answers : {e : Event} {room : ℕ} {b x vs sets ends rows reach paths spans aims numbers run last run′ last′ out out′ : List ℕ} {w w′ : Watchdog} {a : Answer} {end : ℕ}
-    → b ≡ replicate 4_096 0 → room ≤ 4_096 → length x ≡ length (take room b)
-    → Steps rows spans aims numbers run last w (take room b) e a run′ last′ w′ x
+pub step-answers : {e : Event} {lent x vs sets ends rows reach paths spans aims numbers run last run′ last′ out out′ : List ℕ} {w w′ : Watchdog} {a : Answer} {end : ℕ}
+    → Steps rows spans aims numbers run last w lent e a run′ last′ w′ x
     → vs ≡ listed (values a)
-    → ((v : Values) → vs ≡ listed v → Prints (eventLine e v (take room (x ++ drop room b))) out out′ end)
-    → Answers (Stepped e room (kept (memory sets ends rows reach paths spans aims numbers run last) w) (kept (memory sets ends rows reach paths spans aims numbers run′ last′) w′)) out out′ end
+    → ((v : Values) → vs ≡ listed v → Prints (eventLine e v x) out out′ end)
+    → Answers (Stepped e lent (kept (memory sets ends rows reach paths spans aims numbers run last) w) (kept (memory sets ends rows reach paths spans aims numbers run′ last′) w′)) out out′ end
 unfolding withRun
-step-answers {e} {room} {b} {x} {a} z h k steps listed prints = record {
+step-answers {e} {x} {a} steps listed prints = record {
   printed = eventLine e (values a) x;
-  told = record { answer = a; records = x; leaves = record { plan = refl; does = rw (zeros 4_096 z h) at steps }; prints = refl };
-  prints = rw (back 4_096 z h x k) at (prints (values a) listed);
+  told = record { answer = a; records = x; leaves = record { plan = refl; does = steps }; prints = refl };
+  prints = prints (values a) listed;
 }
+
+pub lent-zeros : {e : Event} {room : ℕ} {b out out′ : List ℕ} {k k′ : Kept} {end : ℕ} → b ≡ replicate 4_096 0 → room ≤ 4_096
+    → Answers (Stepped e (take room b) k k′) out out′ end → Answers (Stepped e (replicate room 0) k k′) out out′ end
+lent-zeros z h a = rw (zeros 4_096 z h) at a
 
 pub out-answers : {room : ℕ} {b x : List ℕ} (sets ends rows reach paths spans aims numbers run last : List ℕ) {out out′ : List ℕ} {c : Copied} {end : ℕ}
     → b ≡ replicate 32_768 0 → room ≤ 32_768 → length x ≡ length (take room b)

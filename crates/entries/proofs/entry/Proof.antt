@@ -2,6 +2,7 @@
 -- Assumes nothing.
 use mathlib.Core.Path.{_≡_, sym, _∙_}
 use mathlib.Core.Logic.{⊎-elim}
+use mathlib.Core.List.{List·Memᴰ}
 use mathlib.Core.Bool.{true, false}
 use Prim.Native.Nat.{ℕ, _+_, _*_, _^_, _≤_, _<_}
 use native.Mathlib.Omega.{arith}
@@ -16,7 +17,7 @@ use Rattle.plan_rules.specs.Judge.{outOfRange}
 use Rattle.plan_rules.specs.laws.Ranges.{entry-range}
 use Rattle.items.specs.laws.Rows.{row-most}
 use Rattle.entries.proofs.Ranges.{targets-inside}
-use Rattle.entries.proofs.Entries.{Lent, rowsIn, allIn, Sought, Free, Known, entry-refused, entry-again, entry-twice, entry-from-none, entry-to-none, entry-no-row, entry-no-path, entry-taken}
+use Rattle.entries.proofs.Entries.{Lent, rowsIn, allIn, Sought, Free, entry-refused, entry-again, entry-twice, entry-no-row, entry-no-path, entry-taken}
 use Rattle.entries.proofs.entry.Statement.{statement}
 use Rattle.entries.proofs.entry.Tie as tie
 
@@ -34,7 +35,7 @@ lent s = record {
 abbrev asked : tie.Start → Entry
 asked s = record { initiator = s .args .initiator; slot = s .args .slot; span = s .args .span; targets = s .args .targets .now }
 
--- ways back: from the row to the targets gathered and to the start, from the test for a double to the row, from the test for nodes to the test for a double
+-- ways back: from the row to the targets gathered and to the start, from the test for a double to the row
 abbrev gathered : tie.After-row-of → tie.After-gather
 gathered k = k .before .before .before .before
 
@@ -43,9 +44,6 @@ start k = k .before .before .before .before .before .before
 
 abbrev row : tie.Else4 → tie.After-row-of
 row t = t .before .before .before
-
-abbrev single : tie.Else6 → tie.Else4
-single n = n .before .before .before .before .before
 
 -- what the test of the range tells
 in-range : (e : tie.After-entry-range) → e .entry-range .result ≡ outOfRange (entry (asked (e .before .before .before)))
@@ -69,9 +67,12 @@ told k = let x = asked (start k) in gathered k .gather .ensures .1 (targets-insi
 set-fits : (g : tie.After-gather) → g .gather .result .set < 2 ^ 64
 set-fits g = search needs
 
+targets-low : (k : tie.After-row-of) (t : ℕ) → List·Memᴰ t (asked (start k) .targets) → t < 64
+targets-low k = (entry-range (asked (start k)) (sought k .inside)) .targets
+
 -- what the set tells: all of them are in another
 targets-within : (k : tie.After-row-of) (w : ℕ) → withinOf (gathered k .gather .result .set) w ≡ allIn w (asked (start k) .targets)
-targets-within k w = within-listed (asked (start k) .targets) (gathered k .gather .result .set) w ((entry-range (asked (start k)) (sought k .inside)) .targets) (told k .1)
+targets-within k w = within-listed (asked (start k) .targets) (gathered k .gather .result .set) w (targets-low k) (told k .1)
 
 -- whether there is a row, from the test that the code makes
 has-row : (k : tie.After-at-most) → ltb (k .before .row-of .result) (k .at-most .result) ≡ true → k .before .row-of .result < rowsIn (lent (start (k .before)))
@@ -88,20 +89,12 @@ free t = record {
   once = sym (told (row t) .0) ∙ t .if4 .left;
 }
 
--- past the tests of row 8
-known : (n : tie.Else6) → Known (lent (start (row (single n)))) (asked (start (row (single n)))) (row (single n) .row-of .result)
-known n = record {
-  free = free (single n);
-  from = sym (n .before .before .before .has .ensures) ∙ not-false _ (n .before .before .if5 .left);
-  to = sym (targets-within (row (single n)) _) ∙ sym (n .before .within .ensures) ∙ not-false _ (n .if6 .left);
-}
-
 -- past the test for a row: it is one of the eight, and the index one of the 512
-there : (m : tie.Else7) → row (single (m .before)) .row-of .result < rowsIn (lent (start (row (single (m .before)))))
-there m = has-row (single (m .before) .before .before) (not-false _ (m .if7 .left))
+there : (m : tie.Else5) → row (m .before) .row-of .result < rowsIn (lent (start (row (m .before))))
+there m = has-row (m .before .before .before) (not-false _ (m .if5 .left))
 
-index-in : (m : tie.Else7) → let k = row (single (m .before)) in k .row-of .result * 64 + start k .args .slot < 512
-index-in m = omega (arith, there m, slot-in (row (single (m .before))))
+index-in : (m : tie.Else5) → let k = row (m .before) in k .row-of .result * 64 + start k .args .slot < 512
+index-in m = omega (arith, there m, slot-in (row (m .before)))
 
 gather-requires : tie.Need-gather-requires
 gather-requires c κs = search needs
@@ -136,27 +129,13 @@ returns-2 c = let k = c .before .before .before in entry-again (sought (k .befor
 returns-3 : tie.Need-returns-3
 returns-3 c = let k = c .before .before .before in entry-twice (sought k) (sym (told k .0) ∙ c .if4 .taken)
 
-element-copy-out-nodes : tie.Need-element-copy-out-nodes
-element-copy-out-nodes c = search needs
-
-has-requires : tie.Need-has-requires
-has-requires c κs = search needs
+not-reached-requires : tie.Need-not-reached-requires
+not-reached-requires c κs = search needs
 
 returns-4 : tie.Need-returns-4
-returns-4 c = entry-from-none (free (c .before .before .before)) (sym (c .before .has .ensures) ∙ not-true _ (c .if5 .taken))
-
-within-requires : tie.Need-within-requires
-within-requires c κs = search needs
-
-returns-5 : tie.Need-returns-5
-returns-5 c =
-    let t = c .before .before .before .before .before in
-    entry-to-none (free t) (sym (targets-within (row t) _) ∙ sym (c .before .within .ensures) ∙ not-true _ (c .if6 .taken))
-
-returns-6 : tie.Need-returns-6
-returns-6 c =
-    let t = single (c .before) in
-    entry-no-row (known (c .before)) (no-row (t .before .before) (not-true _ (c .if7 .taken))) (start (row t) .pre)
+returns-4 c =
+    let t = c .before .before in
+    entry-no-row (free t) (c .not-reached .result) (c .not-reached .ensures _ (targets-low (row t)) (told (row t) .1)) (no-row (t .before .before) (not-true _ (c .before .if5 .taken))) (start (row t) .pre)
 
 mul-within : tie.Need-mul-within
 mul-within c = omega (arith, there c)
@@ -164,13 +143,19 @@ mul-within c = omega (arith, there c)
 element-copy-out-within : tie.Need-element-copy-out-within
 element-copy-out-within c = omega (arith, there c)
 
-within-requires-2 : tie.Need-within-requires-2
-within-requires-2 c κs = search needs
+within-requires : tie.Need-within-requires
+within-requires c κs = search needs
 
-returns-7 : tie.Need-returns-7
-returns-7 c =
-    let m = c .before .before .before in
-    entry-no-path (known (m .before)) (there m) (sym (targets-within (row (single (m .before))) _) ∙ sym (c .before .within2 .ensures) ∙ not-true _ (c .if8 .taken))
+not-reached-requires-2 : tie.Need-not-reached-requires-2
+not-reached-requires-2 c κs = search needs
+
+returns-5 : tie.Need-returns-5
+returns-5 c =
+    let b = c .before in
+    let m = b .before .before .before in
+    let t = m .before in
+    entry-no-path (free t) (c .not-reached2 .result) (c .not-reached2 .ensures _ (targets-low (row t)) (told (row t) .1)) (there m)
+    (sym (targets-within (row t) _) ∙ sym (b .before .within .ensures) ∙ not-true _ (b .if6 .taken))
 
 element-write-spans : tie.Need-element-write-spans
 element-write-spans c = omega (arith, index-in (c .before .before .before))
@@ -190,12 +175,12 @@ wrapping-add-u32-requires c κs = search needs
 element-write-numbers : tie.Need-element-write-numbers
 element-write-numbers c = search needs
 
-returns-8 : tie.Need-returns-8
-returns-8 c =
+returns-6 : tie.Need-returns-6
+returns-6 c =
     let e = c .before .before in
     let m = e .before .before .before in
-    let k = row (single (m .before)) in
-    entry-taken (known (m .before)) (there m) (sym (targets-within k _) ∙ sym (e .before .within2 .ensures) ∙ not-false _ (e .if8 .left))
+    let k = row (m .before) in
+    entry-taken (free (m .before)) (start k .pre) (there m) (sym (targets-within k _) ∙ sym (e .before .within .ensures) ∙ not-false _ (e .if6 .left))
     (gathered k .gather .result .set) (set-fits (gathered k)) (told k .1) (c .wrapping-add-u32 .result) (c .wrapping-add-u32 .ensures)
 
 pub entry-spec : {M : Type 1} → statement M
@@ -213,20 +198,17 @@ entry-spec =
     element-copy-out-if3
     returns-2
     returns-3
-    element-copy-out-nodes
-    has-requires
+    not-reached-requires
     returns-4
-    within-requires
-    returns-5
-    returns-6
     mul-within
     element-copy-out-within
-    within-requires-2
-    returns-7
+    within-requires
+    not-reached-requires-2
+    returns-5
     element-write-spans
     mul-aims
     element-write-aims
     element-copy-out-entries
     wrapping-add-u32-requires
     element-write-numbers
-    returns-8)
+    returns-6)

@@ -20,15 +20,15 @@ use Rattle.path_faults.proofs.PathFaults.{links-inside, fault-6, fault-
 use Rattle.path_faults.proofs.path_fault.Statement.{statement}
 use Rattle.path_faults.proofs.path_fault.Tie as tie
 
-gather-requires : tie.Need-gather-requires
-gather-requires c κs = search needs
+trace-requires : tie.Need-trace-requires
+trace-requires c κs = search needs
 
 path-range-requires : tie.Need-path-range-requires
 path-range-requires c κs = search needs
 
 -- what the test of the range tells
 range-told : (c : tie.After-path-range) → let a = c .before .before .before .args in c .path-range .result ≡ outOfRange (pathItem (a .initiator) (a .target) (a .links .now))
-range-told c = c .path-range .ensures (c .before .before .before .args .links .now) (c .before .gather .ensures .0)
+range-told c = c .path-range .ensures (c .before .before .before .args .links .now) (c .before .trace .ensures .0)
 
 returns : tie.Need-returns
 returns c = (λ size p f a b d e g. fault-6 p _ _ _ (sym (range-told (c .before)) ∙ c .if1 .taken), λ e. absurd (omega arith))
@@ -38,10 +38,10 @@ in-range : (c : tie.Else1) → let a = c .before .before .before .before .args i
 in-range c = sym (range-told (c .before)) ∙ c .if1 .left
 
 -- what the set of its links tells: all of them are in another
-links-within : (c : tie.Else1) (w : ℕ) → withinOf (c .before .before .gather .result .set) w ≡ all (λ (n : ℕ). member n w) (c .before .before .before .before .args .links .now)
+links-within : (c : tie.Else1) (w : ℕ) → withinOf (c .before .before .trace .result .set) w ≡ all (λ (n : ℕ). member n w) (c .before .before .before .before .args .links .now)
 links-within c w =
     let r = in-range c in
-    within-listed _ (c .before .before .gather .result .set) w (route-range _ r .links) ((c .before .before .gather .ensures .1 (links-inside _ _ _ r)) .1)
+    within-listed _ (c .before .before .trace .result .set) w (route-range _ r .links) (c .before .before .trace .ensures .1 (links-inside _ _ _ r))
 
 -- the row that was found
 row : (c : tie.Else1) {size : ℕ} {p : Plan} →
@@ -168,9 +168,6 @@ returns-7 c =
       λ e. absurd (omega arith),
     )
 
-is-walk-requires : tie.Need-is-walk-requires
-is-walk-requires c κs = search needs
-
 returns-8 : tie.Need-returns-8
 returns-8 c =
     let k = c .before .before .before .before .before in
@@ -178,7 +175,7 @@ returns-8 c =
     let r = in-range (o .before) in (
       λ size p f a b d e g.
           let m = given {size = size} f a b d e g in
-          fault-10 p _ _ _ r (new o m) (known k m) (not-many m _ _ _ _ (row (o .before) m) (c .before .before .before .before .if7 .left) (c .before .before .if8 .left)) (sym (c .before .is-walk .ensures p f (route-range _ r .initiator) (links-known k m) a b) ∙ not-true _ (c .if9 .taken)),
+          fault-10 p _ _ _ r (new o m) (known k m) (not-many m _ _ _ _ (row (o .before) m) (c .before .before .before .before .if7 .left) (c .before .before .if8 .left)) (sym (o .before .before .before .trace .ensures .2 p f (route-range _ r .initiator) (links-known k m) a b) ∙ not-true _ (c .if9 .taken)),
       λ e. absurd (omega arith),
     )
 
@@ -189,7 +186,7 @@ returns-9 c =
     let r = in-range (o .before) in (
       λ size p f a b d e g.
           let m = given {size = size} f a b d e g in
-          fault-none p _ _ _ r (new o m) (known k m) (not-many m _ _ _ _ (row (o .before) m) (c .before .before .before .before .if7 .left) (c .before .before .if8 .left)) (sym (c .before .is-walk .ensures p f (route-range _ r .initiator) (links-known k m) a b) ∙ not-false _ (c .if9 .left)),
+          fault-none p _ _ _ r (new o m) (known k m) (not-many m _ _ _ _ (row (o .before) m) (c .before .before .before .before .if7 .left) (c .before .before .if8 .left)) (sym (o .before .before .before .trace .ensures .2 p f (route-range _ r .initiator) (links-known k m) a b) ∙ not-false _ (c .if9 .left)),
       λ e. (c .before .before .before .before .if7 .left, c .before .before .if8 .left),
     )
 
@@ -197,7 +194,7 @@ pub path-fault-spec : {M : Type 1} → statement M
 path-fault-spec =
     tie.close
     (tie.spec
-    gather-requires
+    trace-requires
     path-range-requires
     returns
     mul-has
@@ -215,6 +212,5 @@ path-fault-spec =
     returns-6
     element-copy-out-if8
     returns-7
-    is-walk-requires
     returns-8
     returns-9)

@@ -2,11 +2,13 @@
 use mathlib.Core.Path.{_≡_, refl, sym, _∙_}
 use mathlib.Core.List.{List}
 use mathlib.Core.Bool.{Bool, true, false}
-use Prim.Native.Nat.{ℕ, _≤_, _<_, min}
+use Prim.Native.Nat.{ℕ, _+_, _≤_, _<_, min}
 use native.Mathlib.Omega.{arith}
 use lib.ListN.{length}
+use borrow.Author.Count.{below-more}
 use Rattle.lists.specs.Numbers.{firstFrom}
 use Rattle.lists.specs.laws.At.{no-place}
+use Rattle.lists.specs.laws.Insert.{first-is}
 use Rattle.plan_rules.specs.Plan.{nth, Plan}
 use Rattle.plan_rules.specs.Meaning.{isInitiator, initiators}
 use Rattle.plan_rules.specs.laws.Sound.{Sound}
@@ -30,15 +32,33 @@ module _ (p : Plan) (ok : Sound p) where
   pub initiator-none : (r : ℕ) → 8 ≤ r → 0 ≡ ofRow p r (λ (i : ℕ). i)
   initiator-none r h = sym (of-no-row p r (λ (i : ℕ). i) (no-place (initiators p) r (omega (arith, ok .eight))))
 
-  -- r is what the search of the rows finds for i
-  module _ (size : ℕ) (rows numbers : List ℕ) (rs : rows ≡ rowsOf p) (ns : numbers ≡ numbersWith size p) (i r : ℕ)
-      (found : r ≡ firstFrom (min (nth numbers 2) 8) 0 (isRow rows i)) where
-    pub row-told : r < length (initiators p) → r ≡ rowFor p i
-    row-told h = sym (row-for-at p r i (row-place p (ok .eight) rows rs (nth numbers 2) (counted size p numbers ns) i r found (omega (arith, counted size p numbers ns))))
+  -- no row before row k is that of i
+  module _ (size : ℕ) (rows numbers : List ℕ) (rs : rows ≡ rowsOf p) (ns : numbers ≡ numbersWith size p) (i k : ℕ) (passed : (j : ℕ) → j < k → isRow rows i j ≡ false) where
+    most : ℕ
+    most = min (nth numbers 2) 8
 
-    pub none-told : length (initiators p) ≤ r → 8 ≡ rowFor p i
+    all : most ≡ length (initiators p)
+    unfolding most
+    all = omega (arith, counted size p numbers ns, ok .eight)
+
+    pub row-told : isRow rows i k ≡ true → k < length (initiators p) → k ≡ rowFor p i
+    unfolding most
+    row-told e h =
+        let found = sym (first-is most k (isRow rows i) (omega (arith, all)) passed (λ _. e)) in
+        sym (row-for-at p k i (row-place p (ok .eight) rows rs (nth numbers 2) (counted size p numbers ns) i k found (omega (arith, counted size p numbers ns))))
+
+    pub none-told : length (initiators p) ≤ k → 8 ≡ rowFor p i
+    unfolding most
     none-told h = sym ((row-for-none p ok i) .1 (go (isInitiator p i) refl))
       where
+        found : most ≡ firstFrom most 0 (isRow rows i)
+        found = sym (first-is most most (isRow rows i) (omega arith) (λ j l. passed j (omega (arith, all))) (λ l. absurd (omega arith)))
+
         go : (b : Bool) → isInitiator p i ≡ b → b ≡ false
-        go true e = sym e ∙ row-none p (ok .eight) rows rs (nth numbers 2) (counted size p numbers ns) i r found (ok .small i e) (omega (arith, counted size p numbers ns))
+        go true e =
+            sym e ∙ row-none p (ok .eight) rows rs (nth numbers 2) (counted size p numbers ns) i most found (ok .small i e) (omega (arith, counted size p numbers ns, all))
         go false e = refl
+
+-- one row more is passed
+pub passed-more : (rows : List ℕ) (i k : ℕ) → ((j : ℕ) → j < k → isRow rows i j ≡ false) → isRow rows i k ≡ false → (j : ℕ) → j < k + 1 → isRow rows i j ≡ false
+passed-more rows i k p e j h = below-more (λ (m : ℕ). isRow rows i m ≡ false) k p e j (omega arith)

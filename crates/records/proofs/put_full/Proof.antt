@@ -1,29 +1,39 @@
--- `put_full` meets its contract: the word comes apart again. Assumes nothing.
+-- `put_full` meets its contract: the word comes apart again, and the record's bytes are those of the new one. Assumes nothing.
+use mathlib.Core.Path.{refl}
 use Rattle.records.proofs.Laws.{full-puts}
 use borrow.Author.Needs.{needs}
 use Rattle.records.proofs.put_full.Statement.{statement}
 use Rattle.records.proofs.put_full.Tie as tie
 
-cast-target : tie.Need-cast-target
-cast-target c = search needs
+mul-head : tie.Need-mul-head
+mul-head c = search needs
 
-cast-t12 : tie.Need-cast-t12
-cast-t12 c = search needs
+add-head : tie.Need-add-head
+add-head c = search needs
 
-cast-t14 : tie.Need-cast-t14
-cast-t14 c = search needs
+mul-head-2 : tie.Need-mul-head-2
+mul-head-2 c = search needs
 
-cast-t16 : tie.Need-cast-t16
-cast-t16 c = search needs
+mul-head-3 : tie.Need-mul-head-3
+mul-head-3 c = search needs
 
-cast-t18 : tie.Need-cast-t18
-cast-t18 c = search needs
+add-head-2 : tie.Need-add-head-2
+add-head-2 c = search needs
 
-slice-aggregate-put : tie.Need-slice-aggregate-put
-slice-aggregate-put c = search needs
+add-head-3 : tie.Need-add-head-3
+add-head-3 c = search needs
 
-put-requires : tie.Need-put-requires
-put-requires c κs = search needs
+swapped-requires : tie.Need-swapped-requires
+swapped-requires c κs = search needs
+
+mul-put-word : tie.Need-mul-put-word
+mul-put-word c = search needs
+
+add-put-word : tie.Need-add-put-word
+add-put-word c = search needs
+
+put-word-requires : tie.Need-put-word-requires
+put-word-requires c κs = search needs
 
 same-length : tie.Need-same-length
 same-length c = search needs
@@ -31,18 +41,24 @@ same-length c = search needs
 returns : tie.Need-returns
 returns c =
     let a = c .before .before .before .before .before .before .args in
-    λ clock x f is. full-puts clock (a .kind) (a .initiator) (a .v) (a .word) x f is (c .before .before .put .ensures)
+    let t = c .before .before .before .before .swapped in
+    λ clock x f is.
+    full-puts clock (a .kind) (a .initiator) (a .v) (a .word) (t .result) _ x f is (search needs) (search needs) (search needs) (t .ensures .0) refl
+    (c .before .before .put-word .ensures)
 
 pub put-full-spec : {M : Type 1} → statement M
 put-full-spec =
     tie.close
     (tie.spec
-    cast-target
-    cast-t12
-    cast-t14
-    cast-t16
-    cast-t18
-    slice-aggregate-put
-    put-requires
+    mul-head
+    add-head
+    mul-head-2
+    mul-head-3
+    add-head-2
+    add-head-3
+    swapped-requires
+    mul-put-word
+    add-put-word
+    put-word-requires
     same-length
     returns)

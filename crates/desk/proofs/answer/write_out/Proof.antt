@@ -1,43 +1,31 @@
+-- `desk::answer::write_out` meets its contract: the front of a buffer that is all 0 is lent and handed back. Assumes nothing.
+use borrow.Author.Needs.{needs}
 use Rattle.desk.proofs.answer.Rooms.{lent-size, back-within, back-size, back-most}
 use Rattle.desk.proofs.answer.Told.{out-answers}
-use borrow.Author.Needs.{needs}
 use Rattle.desk.proofs.answer.write_out.Statement.{statement}
 use Rattle.desk.proofs.answer.write_out.Tie as tie
-use Rattle.desk.proofs.answer.write_out.Reads as reads
-use Rattle.desk.proofs.answer.write_out.Lts as lts
-use Rattle.desk.proofs.answer.plan_room.Reads as plan-room-reads
-use Rattle.desk.proofs.texts.put_copied.Reads as put-copied-reads
-use Rattle.writing.proofs.out.write_out.Reads as write-out-reads
 
--- src/answer.rt:150:22
 plan-room-requires : tie.Need-plan-room-requires
 plan-room-requires c κs = search needs
 
--- src/answer.rt:160:9
 array-borrow-prefix-buffer : tie.Need-array-borrow-prefix-buffer
 array-borrow-prefix-buffer c = search needs
 
--- src/answer.rt:160:9
 slice-aggregate-write-out : tie.Need-slice-aggregate-write-out
 slice-aggregate-write-out c = let b = c .before in lent-size 32_768 (b .plan-room .ensures) (b .before .pre)
 
--- src/answer.rt:151:9
 write-out-requires : tie.Need-write-out-requires
 write-out-requires c κs = search needs
 
--- src/answer.rt:162:29
 array-share-prefix-buffer : tie.Need-array-share-prefix-buffer
 array-share-prefix-buffer c = let s = c .before .before in let b = s .before .before in back-within 32_768 (b .plan-room .ensures) (b .before .pre) (s .write-out .last .1 .1 .1 .1 .1 .1 .1 .1 .0) (s .write-out .kept .1 .1 .1 .1 .1 .1 .1 .1 .0)
 
--- src/answer.rt:162:29
 slice-aggregate-put-copied : tie.Need-slice-aggregate-put-copied
 slice-aggregate-put-copied c = let s = c .before .before .before in let b = s .before .before in back-size 32_768 (b .plan-room .ensures) (b .before .pre) (s .write-out .last .1 .1 .1 .1 .1 .1 .1 .1 .0) (s .write-out .kept .1 .1 .1 .1 .1 .1 .1 .1 .0)
 
--- src/answer.rt:162:5
 put-copied-requires : tie.Need-put-copied-requires
 put-copied-requires c κs = let s = c .before .before .before in let b = s .before .before in back-most 32_768 (b .plan-room .ensures) (b .before .pre) (s .write-out .last .1 .1 .1 .1 .1 .1 .1 .1 .0) (s .write-out .kept .1 .1 .1 .1 .1 .1 .1 .1 .0)
 
--- src/answer.rt:133:1
 returns : tie.Need-returns
 returns c =
     let s = c .before .before .before .before in

@@ -1,39 +1,28 @@
+-- `desk::texts::put_bytes` meets its contract. Assumes nothing.
 use borrow.Author.Needs.{needs}
 use Rattle.plan_rules.specs.Print.{text}
 use Rattle.desk.proofs.texts.Printed.{bytes-put}
 use Rattle.desk.proofs.texts.put_bytes.Statement.{statement}
 use Rattle.desk.proofs.texts.put_bytes.Tie as tie
-use Rattle.desk.proofs.texts.put_bytes.Reads as reads
-use Rattle.desk.proofs.texts.put_bytes.Lts as lts
-use Rattle.line.proofs.print.put.Reads as put-reads
-use Rattle.script.proofs.lines.put_hex.Reads as put-hex-reads
-use Rattle.script.proofs.lines.put_numbers.Reads as put-numbers-reads
 
--- src/texts.rt:34:9
 put-numbers-requires : tie.Need-put-numbers-requires
 put-numbers-requires c κs = search needs
 
--- src/texts.rt:35:25
 slice-aggregate-put : tie.Need-slice-aggregate-put
 slice-aggregate-put c = search needs
 
--- src/texts.rt:35:9
 put-requires : tie.Need-put-requires
 put-requires c κs = search needs
 
--- src/texts.rt:36:9
 put-hex-requires : tie.Need-put-hex-requires
 put-hex-requires c κs = search needs
 
--- src/texts.rt:37:17
 slice-aggregate-put-2 : tie.Need-slice-aggregate-put-2
 slice-aggregate-put-2 c = search needs
 
--- src/texts.rt:37:5
 put-requires-2 : tie.Need-put-requires-2
 put-requires-2 c κs = search needs
 
--- src/texts.rt:30:1
 returns : tie.Need-returns
 unfolding text
 returns c =

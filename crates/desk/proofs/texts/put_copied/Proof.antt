@@ -1,66 +1,50 @@
+-- `desk::texts::put_copied` meets its contract: the plan was written or not. Assumes nothing.
 use native.Mathlib.Omega.{arith}
 use lib.ListN.{length-take}
-use Rattle.desk.proofs.texts.Copies.{refused-line, written-line}
 use borrow.Author.Needs.{needs}
+use Rattle.desk.proofs.texts.Copies.{refused-line, written-line}
 use Rattle.desk.proofs.texts.put_copied.Statement.{statement}
 use Rattle.desk.proofs.texts.put_copied.Tie as tie
-use Rattle.desk.proofs.texts.put_copied.Reads as reads
-use Rattle.desk.proofs.texts.put_copied.Lts as lts
-use Rattle.desk.proofs.texts.put_bytes.Reads as put-bytes-reads
-use Rattle.reader.proofs.field.part.Reads as part-reads
 
--- src/texts.rt:115:30
 enum-known-copied : tie.Need-enum-known-copied
 enum-known-copied c = search needs
 
--- src/texts.rt:116:23
 cast-t9 : tie.Need-cast-t9
 cast-t9 c = search needs
 
--- src/texts.rt:117:28
 slice-aggregate-put-bytes : tie.Need-slice-aggregate-put-bytes
 slice-aggregate-put-bytes c = search needs
 
--- src/texts.rt:117:33
 slice-aggregate-put-bytes-2 : tie.Need-slice-aggregate-put-bytes-2
 slice-aggregate-put-bytes-2 c = search needs
 
--- src/texts.rt:117:13
 put-bytes-requires : tie.Need-put-bytes-requires
 put-bytes-requires c κs = search needs
 
--- src/texts.rt:119:27
 enum-known-copied-2 : tie.Need-enum-known-copied-2
 enum-known-copied-2 c = search needs
 
--- src/texts.rt:120:26
 cast-t15 : tie.Need-cast-t15
 cast-t15 c = search needs
 
--- src/texts.rt:121:28
 slice-aggregate-put-bytes-3 : tie.Need-slice-aggregate-put-bytes-3
 slice-aggregate-put-bytes-3 c = search needs
 
--- src/texts.rt:121:49
 cast-part : tie.Need-cast-part
 cast-part c = search needs
 
--- src/texts.rt:121:33
 part-requires : tie.Need-part-requires
 part-requires c κs = search needs
 
--- src/texts.rt:121:13
 put-bytes-requires-2 : tie.Need-put-bytes-requires-2
 put-bytes-requires-2 c κs = (omega arith, rw (c .part .ensures, length-take) (omega arith))
 
--- src/texts.rt:110:1
 returns : tie.Need-returns
 returns c =
     let e = c .before .before .before .before .before in
     let a = e .before .before .before .args in
     refused-line (a .buffer .now) (e .copied .given .1) (c .put-bytes .ensures)
 
--- src/texts.rt:110:1
 returns-2 : tie.Need-returns-2
 returns-2 c =
     let e = c .before .before .before .before .before in

@@ -1,34 +1,25 @@
+-- `desk::texts::put_error` meets its contract. Assumes nothing.
 use borrow.Author.Needs.{needs}
 use Rattle.plan_rules.specs.Print.{text}
 use Rattle.desk.proofs.texts.Printed.{error-put}
 use Rattle.desk.proofs.texts.put_error.Statement.{statement}
 use Rattle.desk.proofs.texts.put_error.Tie as tie
-use Rattle.desk.proofs.texts.put_error.Reads as reads
-use Rattle.desk.proofs.texts.put_error.Lts as lts
-use Rattle.line.proofs.print.put.Reads as put-reads
-use Rattle.line.proofs.print.put_decimal.Reads as put-decimal-reads
 
--- src/texts.rt:17:25
 slice-aggregate-put : tie.Need-slice-aggregate-put
 slice-aggregate-put c = search needs
 
--- src/texts.rt:17:9
 put-requires : tie.Need-put-requires
 put-requires c κs = search needs
 
--- src/texts.rt:18:9
 put-decimal-requires : tie.Need-put-decimal-requires
 put-decimal-requires c κs = search needs
 
--- src/texts.rt:19:17
 slice-aggregate-put-2 : tie.Need-slice-aggregate-put-2
 slice-aggregate-put-2 c = search needs
 
--- src/texts.rt:19:5
 put-requires-2 : tie.Need-put-requires-2
 put-requires-2 c κs = search needs
 
--- src/texts.rt:14:1
 returns : tie.Need-returns
 unfolding text
 returns c =

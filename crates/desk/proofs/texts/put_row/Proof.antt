@@ -1,25 +1,18 @@
+-- `desk::texts::put_row` meets its contract. Assumes nothing.
 use borrow.Author.Needs.{needs}
 use Rattle.desk.proofs.texts.Printed.{row-put}
 use Rattle.desk.proofs.texts.put_row.Statement.{statement}
 use Rattle.desk.proofs.texts.put_row.Tie as tie
-use Rattle.desk.proofs.texts.put_row.Reads as reads
-use Rattle.desk.proofs.texts.put_row.Lts as lts
-use Rattle.line.proofs.print.put.Reads as put-reads
-use Rattle.script.proofs.lines.put_numbers.Reads as put-numbers-reads
 
--- src/texts.rt:26:9
 put-numbers-requires : tie.Need-put-numbers-requires
 put-numbers-requires c κs = search needs
 
--- src/texts.rt:27:17
 slice-aggregate-put : tie.Need-slice-aggregate-put
 slice-aggregate-put c = search needs
 
--- src/texts.rt:27:5
 put-requires : tie.Need-put-requires
 put-requires c κs = search needs
 
--- src/texts.rt:22:1
 returns : tie.Need-returns
 returns c =
     let n = c .before .before .before in

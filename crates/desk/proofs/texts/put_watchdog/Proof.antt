@@ -1,29 +1,21 @@
+-- `desk::texts::put_watchdog` meets its contract. Assumes nothing.
 use borrow.Author.Needs.{needs}
 use Rattle.desk.specs.Texts.{watchdogLine}
 use Rattle.desk.proofs.texts.put_watchdog.Statement.{statement}
 use Rattle.desk.proofs.texts.put_watchdog.Tie as tie
-use Rattle.desk.proofs.texts.put_watchdog.Reads as reads
-use Rattle.desk.proofs.texts.put_watchdog.Lts as lts
-use Rattle.desk.proofs.texts.put_row.Reads as put-row-reads
-use Rattle.desk.proofs.texts.yes_or_no.Reads as yes-or-no-reads
 
--- src/texts.rt:87:23
 yes-or-no-requires : tie.Need-yes-or-no-requires
 yes-or-no-requires c κs = search needs
 
--- src/texts.rt:87:42
 yes-or-no-requires-2 : tie.Need-yes-or-no-requires-2
 yes-or-no-requires-2 c κs = search needs
 
--- src/texts.rt:88:18
 slice-aggregate-put-row : tie.Need-slice-aggregate-put-row
 slice-aggregate-put-row c = search needs
 
--- src/texts.rt:88:5
 put-row-requires : tie.Need-put-row-requires
 put-row-requires c κs = search needs
 
--- src/texts.rt:84:1
 returns : tie.Need-returns
 unfolding watchdogLine
 returns c =

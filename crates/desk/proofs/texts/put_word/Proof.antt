@@ -1,24 +1,18 @@
+-- `desk::texts::put_word` meets its contract. Assumes nothing.
 use borrow.Author.Needs.{needs}
 use Rattle.desk.proofs.texts.Printed.{word-put}
 use Rattle.desk.proofs.texts.put_word.Statement.{statement}
 use Rattle.desk.proofs.texts.put_word.Tie as tie
-use Rattle.desk.proofs.texts.put_word.Reads as reads
-use Rattle.desk.proofs.texts.put_word.Lts as lts
-use Rattle.line.proofs.print.put.Reads as put-reads
 
--- src/texts.rt:96:9
 put-requires : tie.Need-put-requires
 put-requires c κs = search needs
 
--- src/texts.rt:97:17
 slice-aggregate-put : tie.Need-slice-aggregate-put
 slice-aggregate-put c = search needs
 
--- src/texts.rt:97:5
 put-requires-2 : tie.Need-put-requires-2
 put-requires-2 c κs = search needs
 
--- src/texts.rt:92:1
 returns : tie.Need-returns
 returns c =
     let p = c .before .before .before in

@@ -1,16 +1,13 @@
+-- `desk::texts::yes_or_no` meets its contract. Assumes nothing.
 use borrow.Author.Tests.{eq-eqb, ne-eqb}
 use Rattle.desk.specs.Texts.{yesOrNo}
 use Rattle.desk.proofs.texts.yes_or_no.Statement.{statement}
 use Rattle.desk.proofs.texts.yes_or_no.Tie as tie
-use Rattle.desk.proofs.texts.yes_or_no.Reads as reads
-use Rattle.desk.proofs.texts.yes_or_no.Lts as lts
 
--- src/texts.rt:78:1
 returns : tie.Need-returns
 unfolding yesOrNo
 returns c = rw (eq-eqb _ 0 (c .if1 .taken))
 
--- src/texts.rt:78:1
 returns-2 : tie.Need-returns-2
 unfolding yesOrNo
 returns-2 c = rw (ne-eqb _ 0 (c .if1 .left))

@@ -1,63 +1,63 @@
--- `items::rows::row_of` meets its contract: the rows passed have other initiators, so the rest decides.
+-- `items::rows::row_of` meets its contract: the search through the first rows ends where that through all of them does, or behind them.
 -- Assumes nothing.
-use mathlib.Core.Path.{_≡_, sym, ap, _∙_}
-use Prim.Native.Nat.{ℕ, _-_}
+use mathlib.Core.Path.{_≡_, refl, sym, ap, _∙_}
+use mathlib.Core.Bool.{Bool}
+use Prim.Native.Nat.{ℕ, _≤_, _<_, min}
+use native.Mathlib.Decide.{decLt}
 use native.Mathlib.Omega.{arith}
 use borrow.Author.Needs.{needs}
-use borrow.Author.Tests.{eq-eqb, ne-eqb}
 use Rattle.lists.specs.Numbers.{firstFrom}
-use Rattle.lists.specs.laws.Scan.{first-here, first-next, first-end}
+use Rattle.lists.specs.laws.Bools.{not-both}
+use Rattle.lists.specs.laws.Numbers.{Finds, first-from}
 use Rattle.items.specs.laws.Rows.{isRow}
 use Rattle.items.proofs.rows.row_of.Statement.{statement}
 use Rattle.items.proofs.rows.row_of.Tie as tie
 
-abbrev Inv-loop : tie.InvT-loop
-Inv-loop rows count i most k₀ k =
-    firstFrom most 0 (isRow rows i) ≡ firstFrom (most - k) k (isRow rows i)
+module _ (t : ℕ → Bool) (m n : ℕ) (h : m ≤ n) where
+  some-first : Finds m 0 t (firstFrom m 0 t)
+  some-first = first-from m 0 t
 
-abbrev μ-loop : tie.MeasureT-loop
-μ-loop rows count i most k₀ k = most - k
+  all-first : Finds n 0 t (firstFrom n 0 t)
+  all-first = first-from n 0 t
 
-at-most-requires : tie.Need-at-most-requires Inv-loop μ-loop
+  -- behind the first m
+  behind : m < firstFrom n 0 t → m ≡ firstFrom m 0 t
+  behind l = go (decLt (firstFrom m 0 t) m)
+    where
+      go : Dec (firstFrom m 0 t < m) → m ≡ firstFrom m 0 t
+      go (yes g) = not-both (some-first .found (omega arith)) (all-first .before _ (omega arith) (omega arith))
+      go (no g) = omega (arith, some-first .upto)
+
+  -- among them
+  among : firstFrom n 0 t ≤ m → firstFrom n 0 t ≡ firstFrom m 0 t
+  among l = go (decLt (firstFrom m 0 t) (firstFrom n 0 t)) (decLt (firstFrom n 0 t) (firstFrom m 0 t))
+    where
+      go : Dec (firstFrom m 0 t < firstFrom n 0 t) → Dec (firstFrom n 0 t < firstFrom m 0 t) → firstFrom n 0 t ≡ firstFrom m 0 t
+      go (yes g) _ = not-both (some-first .found (omega arith)) (all-first .before _ (omega arith) g)
+      go (no g) (yes k) = not-both (all-first .found (omega (arith, some-first .upto))) (some-first .before _ (omega arith) k)
+      go (no g) (no k) = omega arith
+
+at-most-requires : tie.Need-at-most-requires
 at-most-requires c κs = search needs
 
-loop-holds : tie.Need-loop-holds Inv-loop μ-loop
-loop-holds c = let a = c .before .args in ap (λ (m : ℕ). firstFrom m 0 (isRow (a .rows .now) (a .i))) (omega arith)
+first-row-requires : tie.Need-first-row-requires
+first-row-requires c κs = search needs
 
-element-copy-out-b : tie.Need-element-copy-out-b Inv-loop μ-loop
-element-copy-out-b c = search needs
-
-returns : tie.Need-returns Inv-loop μ-loop
+returns : tie.Need-returns
 returns c =
-    let l = c .before .before .before in
-    let a = l .before .before .args in
-    let most = l .before .at-most .result in
-    let k = l .loop .k in
-    sym (l .loop .inv ∙ first-here (isRow (a .rows .now) (a .i)) most k (search needs) (eq-eqb (a .i) _ (sym (c .if1 .taken))))
-    ∙ ap (λ (m : ℕ). firstFrom m 0 (isRow (a .rows .now) (a .i))) (l .before .at-most .ensures)
+    let b = c .before in
+    let a = b .before .before .args in
+    let m = b .before .at-most .ensures in
+    let t = isRow (a .rows .now) (a .i) in
+    m ∙ behind t (min (a .count) 8) 8 (omega arith) (omega (arith, c .if1 .taken, m, b .first-row .ensures))
 
-add-k : tie.Need-add-k Inv-loop μ-loop
-add-k c = search needs
-
-loop-less : tie.Need-loop-less Inv-loop μ-loop
-loop-less c = search needs
-
-loop-again : tie.Need-loop-again Inv-loop μ-loop
-loop-again c =
-    let l = c .before .before .before in
-    let a = l .before .before .args in
-    let most = l .before .at-most .result in
-    let k = l .loop .k in
-    l .loop .inv ∙ first-next (isRow (a .rows .now) (a .i)) most k (search needs) (ne-eqb (a .i) _ (λ e. c .if1 .left (sym e)))
-
-returns-2 : tie.Need-returns-2 Inv-loop μ-loop
+returns-2 : tie.Need-returns-2
 returns-2 c =
-    let l = c .before in
-    let a = l .before .before .args in
-    let most = l .before .at-most .result in
-    let k = l .loop .k in
-    sym (l .loop .inv ∙ first-end (isRow (a .rows .now) (a .i)) most k (search needs))
-    ∙ ap (λ (m : ℕ). firstFrom m 0 (isRow (a .rows .now) (a .i))) (l .before .at-most .ensures)
+    let b = c .before in
+    let a = b .before .before .args in
+    let m = b .before .at-most .ensures in
+    let t = isRow (a .rows .now) (a .i) in
+    b .first-row .ensures ∙ among t (min (a .count) 8) 8 (omega arith) (omega (arith, c .if1 .left, m, b .first-row .ensures))
 
 pub row-of-spec : {M : Type 1} → statement M
-row-of-spec = tie.close (tie.spec Inv-loop μ-loop at-most-requires loop-holds element-copy-out-b returns add-k loop-less loop-again returns-2)
+row-of-spec = tie.close (tie.spec at-most-requires first-row-requires returns returns-2)

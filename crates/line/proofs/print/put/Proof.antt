@@ -7,6 +7,9 @@ use Rattle.line.proofs.print.put.Tie as tie
 returns : tie.Need-returns
 returns c = let a = c .before .before .before .args in puts-over (a .out .now) (a .at) (a .s .now) (a .out .now) (a .at) (search needs)
 
+sub-if2 : tie.Need-sub-if2
+sub-if2 c = search needs
+
 returns-2 : tie.Need-returns-2
 returns-2 c = let a = c .before .before .before .before .args in puts-over (a .out .now) (a .at) (a .s .now) (a .out .now) (a .at) (search needs)
 
@@ -20,4 +23,4 @@ returns-3 : tie.Need-returns-3
 returns-3 c = search needs
 
 pub put-spec : {M : Type 1} → statement M
-put-spec = tie.close (tie.spec returns returns-2 put-bytes-requires same-length returns-3)
+put-spec = tie.close (tie.spec returns sub-if2 returns-2 put-bytes-requires same-length returns-3)

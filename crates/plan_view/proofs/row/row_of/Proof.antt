@@ -1,30 +1,64 @@
--- `row_of` meets its contract: what the search of the rows finds below their number is the row. Assumes nothing.
+-- `row_of` meets its contract: the rows passed are those of other initiators. Assumes nothing.
+use mathlib.Core.Path.{_≡_, sym}
+use mathlib.Core.Bool.{false}
+use Prim.Native.Nat.{ℕ, _-_, _≤_, _<_}
 use native.Mathlib.Omega.{arith}
 use borrow.Author.Needs.{needs}
-use Rattle.plan_view.proofs.row.Laws.{row-told, none-told}
+use borrow.Author.Tests.{eq-eqb, ne-eqb}
+use Rattle.items.specs.laws.Rows.{isRow}
+use Rattle.plan_view.proofs.row.Laws.{row-told, none-told, passed-more}
 use Rattle.plan_view.proofs.row.row_of.Statement.{statement}
 use Rattle.plan_view.proofs.row.row_of.Tie as tie
 
-element-copy-out-row-of : tie.Need-element-copy-out-row-of
-element-copy-out-row-of c = search needs
+abbrev Inv-loop : tie.InvT-loop
+Inv-loop rows numbers i count k₀ k = (k ≤ 8) × ((j : ℕ) → j < k → isRow rows i j ≡ false)
 
-row-of-requires : tie.Need-row-of-requires
-row-of-requires c κs = search needs
+abbrev μ-loop : tie.MeasureT-loop
+μ-loop rows numbers i count k₀ k = 8 - k
 
-count-of-requires : tie.Need-count-of-requires
+count-of-requires : tie.Need-count-of-requires Inv-loop μ-loop
 count-of-requires c κs = search needs
 
-returns : tie.Need-returns
-returns c size p ok rs ns =
-    let d = c .before .before in
-    let a = d .before .before .args in
-    row-told p ok size (a .rows .now) (a .numbers .now) rs ns (a .i) (d .row-of .result) (d .row-of .ensures) (omega (arith, c .before .count-of .ensures size p ok ns))
+loop-holds : tie.Need-loop-holds Inv-loop μ-loop
+loop-holds c = (search needs, λ j h. absurd (omega arith))
 
-returns-2 : tie.Need-returns-2
+element-copy-out-b : tie.Need-element-copy-out-b Inv-loop μ-loop
+element-copy-out-b c = search needs
+
+returns : tie.Need-returns Inv-loop μ-loop
+returns c size p ok rs ns =
+    let l = c .before .before .before .before in
+    let a = l .before .before .args in
+    let n = l .before .count-of .ensures size p ok ns in
+    row-told p ok size (a .rows .now) (a .numbers .now) rs ns (a .i) (l .loop .k) (l .loop .inv .1) (eq-eqb (a .i) _ (sym (c .before .if1 .taken)))
+    (omega (arith, n))
+
+returns-2 : tie.Need-returns-2 Inv-loop μ-loop
 returns-2 c size p ok rs ns =
-    let d = c .before .before in
-    let a = d .before .before .args in
-    none-told p ok size (a .rows .now) (a .numbers .now) rs ns (a .i) (d .row-of .result) (d .row-of .ensures) (omega (arith, c .before .count-of .ensures size p ok ns))
+    let l = c .before .before .before .before in
+    let a = l .before .before .args in
+    let n = l .before .count-of .ensures size p ok ns in
+    none-told p ok size (a .rows .now) (a .numbers .now) rs ns (a .i) (l .loop .k) (l .loop .inv .1) (omega (arith, n))
+
+add-k : tie.Need-add-k Inv-loop μ-loop
+add-k c = search needs
+
+loop-less : tie.Need-loop-less Inv-loop μ-loop
+loop-less c = search needs
+
+loop-again : tie.Need-loop-again Inv-loop μ-loop
+loop-again c =
+    let l = c .before .before .before in
+    let a = l .before .before .args in
+    (search needs, passed-more (a .rows .now) (a .i) (l .loop .k) (l .loop .inv .1) (ne-eqb (a .i) _ (λ e. c .if1 .left (sym e))))
+
+returns-3 : tie.Need-returns-3 Inv-loop μ-loop
+returns-3 c size p ok rs ns =
+    let l = c .before in
+    let a = l .before .before .args in
+    none-told p ok size (a .rows .now) (a .numbers .now) rs ns (a .i) (l .loop .k) (l .loop .inv .1) (omega (arith, ok .eight))
 
 pub row-of-spec : {M : Type 1} → statement M
-row-of-spec = tie.close (tie.spec element-copy-out-row-of row-of-requires count-of-requires returns returns-2)
+row-of-spec =
+    tie.close
+    (tie.spec Inv-loop μ-loop count-of-requires loop-holds element-copy-out-b returns returns-2 add-k loop-less loop-again returns-3)

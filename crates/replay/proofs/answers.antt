@@ -1,0 +1,2 @@
+-- Laws of answers that are gathered.
+pub mod Gathered

@@ -1,0 +1,3 @@
+-- Laws of lines in a buffer.
+pub mod Scans
+pub mod Shifts

@@ -1,0 +1,225 @@
+// The lines that are in the input buffer answered, and the answers gathered in an output buffer.
+ghost use Rattle.calls.specs.Calls.{memory};
+ghost use Rattle.replay.specs.Gather.{Flushed, Roomy, Gathers, Passes, Ends, Answered};
+use crate::lines::find_newline;
+use box_rules::Watchdog;
+use desk::answer::answer;
+use desk::answer::over_long;
+use libc::STDOUT_FILENO;
+use line::print::put;
+use reader::field::part;
+
+// What goes on from line to line: how many lines were read, the five numbers, how many bytes are gathered, whether the rest of a line
+// that is too long is to be passed over, and whether a write failed.
+pub struct Desk {
+    pub count: u64,
+    pub watchdog: Watchdog,
+    pub gathered: usize,
+    pub passing: bool,
+    pub failed: bool,
+}
+
+// Writes what is gathered, unless a write failed before.
+pub fn flush(d: Desk, out: &[u8]) -> Desk
+    ensures { λ r. ⌜ Flushed d r ⌝ }
+{
+    if d.failed {
+        return d;
+    }
+    let at = d.gathered;
+    let written = io::write_all(STDOUT_FILENO, part(out, 0, at));
+    let watchdog = d.watchdog;
+    Desk {
+        count: d.count,
+        watchdog,
+        gathered: 0,
+        passing: d.passing,
+        failed: !written,
+    }
+}
+
+// Writes what is gathered where the longest answer might have no room behind it.
+fn make_room(d: Desk, out: &[u8]) -> Desk
+    ensures { λ r. ⌜ Roomy d (now (out .entry)) r ⌝ }
+{
+    let at = d.gathered;
+    let room = out.len();
+    if at > room {
+        return flush(d, out);
+    }
+    if room - at < 65_600 {
+        return flush(d, out);
+    }
+    d
+}
+
+// One line answered. Lines are counted modulo 2 to the 64, which no input reaches.
+fn answer_line(
+    line: &[u8],
+    sets: &mut [u64; 3],
+    ends: &mut [u8; 128],
+    rows: &mut [u8; 8],
+    reach: &mut [u64; 8],
+    paths: &mut [u8; 1408],
+    spans: &mut [u8; 512],
+    aims: &mut [u64; 512],
+    numbers: &mut [u32; 6],
+    run: &mut [u64; 96],
+    last: &mut [u8; 1],
+    d: Desk,
+    text: &mut [u8; 65600],
+    out: &mut [u8],
+) -> Desk
+    ensures { λ r. ⌜ Gathers (now (line .entry)) d (memory (now (sets .entry)) (now (ends .entry)) (now (rows .entry)) (now (reach .entry)) (now (paths .entry)) (now (spans .entry)) (now (aims .entry)) (now (numbers .entry)) (now (run .entry)) (now (last .entry))) (now (out .entry)) r (memory (now (sets .exit)) (now (ends .exit)) (now (rows .exit)) (now (reach .exit)) (now (paths .exit)) (now (spans .exit)) (now (aims .exit)) (now (numbers .exit)) (now (run .exit)) (now (last .exit))) (now (out .exit)) ⌝ }
+{
+    let count = std::num::wrapping_add_u64(d.count, 1);
+    let five = d.watchdog;
+    let answered = answer(
+        line,
+        count,
+        sets,
+        ends,
+        rows,
+        reach,
+        paths,
+        spans,
+        aims,
+        numbers,
+        run,
+        last,
+        five,
+        text,
+    );
+    let end = answered.end;
+    let watchdog = answered.watchdog;
+    let at = d.gathered;
+    let gathered = put(out, at, part(text, 0, end));
+    Desk {
+        count,
+        watchdog,
+        gathered,
+        passing: d.passing,
+        failed: d.failed,
+    }
+}
+
+// A line that is longer than the input buffer: its answer, by the front of it that is there, and the rest of it is to be passed over.
+pub fn pass_over(front: &[u8], d: Desk, text: &mut [u8; 65600], out: &mut [u8]) -> Desk
+    ensures { λ r. ⌜ Passes (now (front .entry)) d (now (out .entry)) r (now (out .exit)) ⌝ }
+{
+    if d.passing {
+        return d;
+    }
+    let ready = make_room(d, out);
+    let count = std::num::wrapping_add_u64(ready.count, 1);
+    let watchdog = ready.watchdog;
+    let end = over_long(front, count, text);
+    let at = ready.gathered;
+    let gathered = put(out, at, part(text, 0, end));
+    Desk {
+        count,
+        watchdog,
+        gathered,
+        passing: true,
+        failed: ready.failed,
+    }
+}
+
+// A line whose end was read: it is answered, or it was the rest of one that is passed over.
+pub fn end_line(
+    line: &[u8],
+    sets: &mut [u64; 3],
+    ends: &mut [u8; 128],
+    rows: &mut [u8; 8],
+    reach: &mut [u64; 8],
+    paths: &mut [u8; 1408],
+    spans: &mut [u8; 512],
+    aims: &mut [u64; 512],
+    numbers: &mut [u32; 6],
+    run: &mut [u64; 96],
+    last: &mut [u8; 1],
+    d: Desk,
+    text: &mut [u8; 65600],
+    out: &mut [u8],
+) -> Desk
+    ensures { λ r. ⌜ Ends (now (line .entry)) d (memory (now (sets .entry)) (now (ends .entry)) (now (rows .entry)) (now (reach .entry)) (now (paths .entry)) (now (spans .entry)) (now (aims .entry)) (now (numbers .entry)) (now (run .entry)) (now (last .entry))) (now (out .entry)) r (memory (now (sets .exit)) (now (ends .exit)) (now (rows .exit)) (now (reach .exit)) (now (paths .exit)) (now (spans .exit)) (now (aims .exit)) (now (numbers .exit)) (now (run .exit)) (now (last .exit))) (now (out .exit)) ⌝ }
+{
+    if d.passing {
+        let watchdog = d.watchdog;
+        return Desk {
+            count: d.count,
+            watchdog,
+            gathered: d.gathered,
+            passing: false,
+            failed: d.failed,
+        };
+    }
+    let ready = make_room(d, out);
+    answer_line(
+        line,
+        sets,
+        ends,
+        rows,
+        reach,
+        paths,
+        spans,
+        aims,
+        numbers,
+        run,
+        last,
+        ready,
+        text,
+        out,
+    )
+}
+
+// Where the line begins whose end was not read yet.
+pub struct Rest {
+    pub start: usize,
+    pub desk: Desk,
+}
+
+// Every line of the input that ends there.
+pub fn answer_lines(
+    input: &[u8],
+    sets: &mut [u64; 3],
+    ends: &mut [u8; 128],
+    rows: &mut [u8; 8],
+    reach: &mut [u64; 8],
+    paths: &mut [u8; 1408],
+    spans: &mut [u8; 512],
+    aims: &mut [u64; 512],
+    numbers: &mut [u32; 6],
+    run: &mut [u64; 96],
+    last: &mut [u8; 1],
+    desk: Desk,
+    text: &mut [u8; 65600],
+    out: &mut [u8],
+) -> Rest
+    ensures { λ r. ⌜ Answered (now (input .entry)) desk (memory (now (sets .entry)) (now (ends .entry)) (now (rows .entry)) (now (reach .entry)) (now (paths .entry)) (now (spans .entry)) (now (aims .entry)) (now (numbers .entry)) (now (run .entry)) (now (last .entry))) (now (out .entry)) (r .start) (r .desk) (memory (now (sets .exit)) (now (ends .exit)) (now (rows .exit)) (now (reach .exit)) (now (paths .exit)) (now (spans .exit)) (now (aims .exit)) (now (numbers .exit)) (now (run .exit)) (now (last .exit))) (now (out .exit)) ⌝ }
+{
+    let mut d = desk;
+    let mut start = 0;
+    let mut end = find_newline(input, 0);
+    while end < input.len() {
+        d = end_line(
+            &input[start..end],
+            sets,
+            ends,
+            rows,
+            reach,
+            paths,
+            spans,
+            aims,
+            numbers,
+            run,
+            last,
+            d,
+            text,
+            out,
+        );
+        start = end + 1;
+        end = find_newline(input, start);
+    }
+    Rest { start, desk: d }
+}

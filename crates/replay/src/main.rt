@@ -1,0 +1,276 @@
+// replay: reads a script of commands from standard input and prints an answer for each line of it.
+// Answers are written before more input is waited for. A read error is said on standard error, after the answers so far.
+ghost use mathlib.Core.Path.{_≡_};
+ghost use Prim.Native.Nat.{_≤_};
+ghost use lib.ListN.{length, replicate};
+ghost use Rattle.calls.specs.Calls.{memory};
+ghost use Rattle.replay.specs.Gather.{Taken};
+use answers::Desk;
+use answers::answer_lines;
+use answers::end_line;
+use answers::flush;
+use answers::pass_over;
+use box_rules::Watchdog;
+use calls::clear::clear_with;
+use libc::STDERR_FILENO;
+use libc::STDIN_FILENO;
+use lines::shift;
+use reader::field::part;
+
+mod answers;
+mod lines;
+
+// How much of the input buffer is filled, and whether the input ended or a read failed.
+struct Input {
+    len: usize,
+    ended: bool,
+    failed: bool,
+}
+
+// Reads behind the bytes that are there; a read may bring fewer bytes than there is room for.
+fn read_more(input: &mut [u8], len: usize) -> Input
+    requires { ⌜ len ≤ length (now input) ⌝ }
+    ensures { λ r. ⌜ (len ≤ r .len) × (r .len ≤ length (now (input .exit))) ⌝ }
+{
+    let got = libc::read(STDIN_FILENO, &mut input[len..]);
+    let k = io::count(got, &input[len..]);
+    Input {
+        len: len + k,
+        ended: k == 0,
+        failed: got < 0,
+    }
+}
+
+// Room for the input, for an answer, and for the answers gathered: two of the longest; all 0.
+fn input_room() -> [u8; 65536]
+    ensures { λ r. ⌜ r ≡ replicate 65_536 0 ⌝ }
+{
+    [0; 65536]
+}
+
+fn text_room() -> [u8; 65600]
+    ensures { λ r. ⌜ r ≡ replicate 65_600 0 ⌝ }
+{
+    [0; 65600]
+}
+
+fn output_room() -> [u8; 131200]
+    ensures { λ r. ⌜ r ≡ replicate 131_200 0 ⌝ }
+{
+    [0; 131200]
+}
+
+// How many bytes are left of the input.
+struct Left {
+    len: usize,
+    desk: Desk,
+}
+
+// The lines that the input has so far; what is left begins at the front of the buffer. A line that fills the buffer is passed over.
+fn take_lines(
+    input: &mut [u8],
+    len: usize,
+    sets: &mut [u64; 3],
+    ends: &mut [u8; 128],
+    rows: &mut [u8; 8],
+    reach: &mut [u64; 8],
+    paths: &mut [u8; 1408],
+    spans: &mut [u8; 512],
+    aims: &mut [u64; 512],
+    numbers: &mut [u32; 6],
+    run: &mut [u64; 96],
+    last: &mut [u8; 1],
+    desk: Desk,
+    text: &mut [u8; 65600],
+    out: &mut [u8],
+) -> Left
+    requires { ⌜ len ≤ length (now input) ⌝ }
+    ensures { λ r. ⌜ Taken (now (input .entry)) len desk (memory (now (sets .entry)) (now (ends .entry)) (now (rows .entry)) (now (reach .entry)) (now (paths .entry)) (now (spans .entry)) (now (aims .entry)) (now (numbers .entry)) (now (run .entry)) (now (last .entry))) (now (out .entry)) (now (input .exit)) r (memory (now (sets .exit)) (now (ends .exit)) (now (rows .exit)) (now (reach .exit)) (now (paths .exit)) (now (spans .exit)) (now (aims .exit)) (now (numbers .exit)) (now (run .exit)) (now (last .exit))) (now (out .exit)) ⌝ }
+{
+    let rest = answer_lines(
+        &input[..len],
+        sets,
+        ends,
+        rows,
+        reach,
+        paths,
+        spans,
+        aims,
+        numbers,
+        run,
+        last,
+        desk,
+        text,
+        out,
+    );
+    let start = rest.start;
+    let d = rest.desk;
+    let left = shift(input, start, len);
+    if left < input.len() {
+        return Left { len: left, desk: d };
+    }
+    let passed = pass_over(input, d, text, out);
+    Left {
+        len: 0,
+        desk: passed,
+    }
+}
+
+// The end of the input: a last line may lack its newline.
+fn finish(
+    input: &[u8],
+    len: usize,
+    sets: &mut [u64; 3],
+    ends: &mut [u8; 128],
+    rows: &mut [u8; 8],
+    reach: &mut [u64; 8],
+    paths: &mut [u8; 1408],
+    spans: &mut [u8; 512],
+    aims: &mut [u64; 512],
+    numbers: &mut [u32; 6],
+    run: &mut [u64; 96],
+    last: &mut [u8; 1],
+    d: Desk,
+    text: &mut [u8; 65600],
+    out: &mut [u8],
+) {
+    if len == 0 {
+        flush(d, out);
+        return;
+    }
+    let ended = end_line(
+        part(input, 0, len),
+        sets,
+        ends,
+        rows,
+        reach,
+        paths,
+        spans,
+        aims,
+        numbers,
+        run,
+        last,
+        d,
+        text,
+        out,
+    );
+    flush(ended, out);
+}
+
+// Reads and answers until the input ends or fails, or a write fails. The turns are counted only so that the loop is seen to end.
+fn serve(
+    sets: &mut [u64; 3],
+    ends: &mut [u8; 128],
+    rows: &mut [u8; 8],
+    reach: &mut [u64; 8],
+    paths: &mut [u8; 1408],
+    spans: &mut [u8; 512],
+    aims: &mut [u64; 512],
+    numbers: &mut [u32; 6],
+    run: &mut [u64; 96],
+    last: &mut [u8; 1],
+    cleared: Watchdog,
+) {
+    let mut input = input_room();
+    let mut text = text_room();
+    let mut out = output_room();
+    let mut d = Desk {
+        count: 0,
+        watchdog: cleared,
+        gathered: 0,
+        passing: false,
+        failed: false,
+    };
+    let mut len = 0;
+    let mut turns: u64 = 0;
+    while turns < 18_446_744_073_709_551_615 {
+        let read = read_more(&mut input, len);
+        if read.failed {
+            io::write_all(STDERR_FILENO, b"replay: standard input could not be read\n");
+            return;
+        }
+        if read.ended {
+            finish(
+                &input,
+                len,
+                sets,
+                ends,
+                rows,
+                reach,
+                paths,
+                spans,
+                aims,
+                numbers,
+                run,
+                last,
+                d,
+                &mut text,
+                &mut out,
+            );
+            return;
+        }
+        let left = take_lines(
+            &mut input,
+            read.len,
+            sets,
+            ends,
+            rows,
+            reach,
+            paths,
+            spans,
+            aims,
+            numbers,
+            run,
+            last,
+            d,
+            &mut text,
+            &mut out,
+        );
+        len = left.len;
+        let after = left.desk;
+        d = flush(after, &out);
+        if d.failed {
+            return;
+        }
+        turns += 1;
+    }
+}
+
+// "The box starts as after a clear."
+fn main() {
+    let mut sets = [0u64; 3];
+    let mut ends = [0u8; 128];
+    let mut rows = [0u8; 8];
+    let mut reach = [0u64; 8];
+    let mut paths = [0u8; 1408];
+    let mut spans = [0u8; 512];
+    let mut aims = [0u64; 512];
+    let mut numbers = [0u32; 6];
+    let mut run = [0u64; 96];
+    let mut last = [0u8; 1];
+    let cleared = clear_with(
+        &mut sets,
+        &mut ends,
+        &mut rows,
+        &mut reach,
+        &mut paths,
+        &mut spans,
+        &mut aims,
+        &mut numbers,
+        &mut run,
+        &mut last,
+    );
+    serve(
+        &mut sets,
+        &mut ends,
+        &mut rows,
+        &mut reach,
+        &mut paths,
+        &mut spans,
+        &mut aims,
+        &mut numbers,
+        &mut run,
+        &mut last,
+        cleared,
+    );
+}
