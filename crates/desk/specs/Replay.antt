@@ -19,7 +19,7 @@ use Rattle.calls.specs.Calls.{Memory, ClearLeaves, LoadLeaves, Lent, StepLeaves
 use Rattle.script.specs.declared.command.Command.{Command}
 use Rattle.script.specs.declared.command.Command.the-variants.{Skip, Bad, Load, Clear, TimeCode, Request, Reply, Reading, Out, Watchdog, SetWatchdog}
 use Rattle.script.specs.Script.{bytesOf}
-use Rattle.desk.specs.Texts.{ended, errorLine, eventLine, outLine, watchdogLine, Prints}
+use Rattle.replies.specs.Texts.{ended, errorLine, eventLine, outLine, watchdogLine, Prints}
 
 -- what is kept between commands: "The program keeps the five numbers between commands, as a box's caller does."
 pub record Kept : Type 0 where
@@ -28,6 +28,10 @@ pub record Kept : Type 0 where
 
 abbrev pub kept : Memory → five.Watchdog → Kept
 kept m w = record { memory = m; five = w }
+
+-- "a caller may lend any five numbers": they are kept as given
+abbrev pub fiveOf : ℕ → ℕ → ℕ → ℕ → ℕ → five.Watchdog
+fiveOf last seen reported least greatest = record { last = last; seen = seen; reported = reported; least = least; greatest = greatest }
 
 -- the load of a file
 pub record Loaded (file : List ℕ) (after : Kept) (printed : List ℕ) : Type 0 where
@@ -63,8 +67,7 @@ Replied (Reading clock) line n before after printed = Stepped (event.Reading clo
 Replied (Out room) line n before after printed = (after ≡ before) × WrittenOut room (before .memory) printed
 Replied Watchdog line n before after printed = (after ≡ before) × (printed ≡ watchdogLine (before .five))
 Replied (SetWatchdog last seen reported least greatest) line n before after printed =
-    (after ≡ kept (before .memory) (record { last = last; seen = seen; reported = reported; least = least; greatest = greatest }))
-    × (printed ≡ ended (text "OK"))
+    (after ≡ kept (before .memory) (fiveOf last seen reported least greatest)) × (printed ≡ ended (text "OK"))
 
 -- what is printed stands at the front of a buffer
 pub record Answers (Told : List ℕ → Type 0) (before after : List ℕ) (end : ℕ) : Type 0 where

@@ -5,13 +5,8 @@ ghost use lib.ListN.{length, replicate};
 ghost use mathlib.Core.List.{List, []};
 ghost use Rattle.calls.specs.Calls.{memory};
 ghost use Rattle.script.specs.Script.{decoded, commandOf};
-ghost use Rattle.desk.specs.Texts.{overLongLine, Prints};
-ghost use Rattle.desk.specs.Replay.{kept, Loaded, Stepped, WrittenOut, Replied, Answers};
-use crate::texts::put_copied;
-use crate::texts::put_error;
-use crate::texts::put_event;
-use crate::texts::put_watchdog;
-use crate::texts::put_word;
+ghost use Rattle.replies.specs.Texts.{overLongLine, Prints};
+ghost use Rattle.desk.specs.Replay.{fiveOf, kept, Loaded, Stepped, WrittenOut, Replied, Answers};
 use box_rules::Event;
 use box_rules::Watchdog;
 use calls::clear::clear_with;
@@ -20,6 +15,11 @@ use events::step::step_with;
 use events::values::values_of;
 use line::print::print_verdict;
 use line::print::put;
+use replies::texts::put_copied;
+use replies::texts::put_error;
+use replies::texts::put_event;
+use replies::texts::put_watchdog;
+use replies::texts::put_word;
 use script::command::Command;
 use script::command::command_of;
 use script::hex::decode;
@@ -240,8 +240,20 @@ pub fn over_long(line: &[u8], number: u64, out: &mut [u8; 65600]) -> usize
     put_error(out, number)
 }
 
+// "a caller may lend any five numbers": seen and reported stay the numbers that were given, and all but 0 are yes.
+fn five_of(last: u32, seen: u32, reported: u32, least: u32, greatest: u32) -> Watchdog
+    ensures { λ r. ⌜ r ≡ fiveOf last seen reported least greatest ⌝ }
+{
+    Watchdog {
+        last,
+        seen,
+        reported,
+        least,
+        greatest,
+    }
+}
+
 // One line of a script: what it prints stands at the front of out, and the box and the five numbers are those after it.
-// A caller's five numbers are kept as given, so that a number other than 0 stays what it was: "not 0 is yes".
 pub fn answer(
     line: &[u8],
     number: u64,
@@ -371,13 +383,7 @@ pub fn answer(
             least,
             greatest,
         } => {
-            let given = Watchdog {
-                last: clock,
-                seen,
-                reported,
-                least,
-                greatest,
-            };
+            let given = five_of(clock, seen, reported, least, greatest);
             let end = put_word(out, b"OK");
             Answered {
                 end,

@@ -7,7 +7,7 @@ use lib.ListN.{length, take, drop}
 use Rattle.lists.specs.Puts.{Puts}
 use Rattle.calls.specs.Calls.{Memory}
 use Rattle.script.specs.Script.{commandOf}
-use Rattle.desk.specs.Texts.{overLongLine}
+use Rattle.replies.specs.Texts.{overLongLine}
 use Rattle.desk.specs.Replay.{kept, Replied}
 use Rattle.replay.specs.declared.answers.Desk.{Desk}
 use Rattle.replay.specs.declared.Left.{Left}

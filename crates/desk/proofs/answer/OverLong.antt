@@ -5,7 +5,7 @@ use Prim.Native.Nat.{ℕ}
 use native.Mathlib.Omega.{arith}
 use lib.ListN.{length, getD}
 use borrow.Author.Tests.{eq-eqb, ne-eqb}
-use Rattle.desk.specs.Texts.{errorLine, overLongLine, Prints}
+use Rattle.replies.specs.Texts.{errorLine, overLongLine, Prints}
 
 module _ (line : List ℕ) (n : ℕ) {l : List ℕ} where
   pub hash : getD line 0 0 ≡ 35 → Prints (overLongLine line n) l l 0

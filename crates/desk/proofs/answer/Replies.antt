@@ -1,5 +1,5 @@
 -- The answer to each command is the answer to the line. Assumes nothing.
-use mathlib.Core.Path.{_≡_, refl, sym, _∙_}
+use mathlib.Core.Path.{_≡_, refl, sym, ap, _∙_}
 use mathlib.Core.List.{List, []}
 use mathlib.Core.Option.{some}
 use Prim.Native.Nat.{ℕ, _-_, _≤_}
@@ -15,8 +15,8 @@ use Rattle.script.specs.Script.{bytesOf, decoded, commandOf}
 use Rattle.script.specs.laws.Bytes.{bytes-decoded}
 use Rattle.script.specs.laws.Loads.{load-line}
 use Rattle.script.specs.laws.Rooms.{Rooms, line-rooms}
-use Rattle.desk.specs.Texts.{ended, errorLine, watchdogLine, Prints}
-use Rattle.desk.specs.Replay.{Kept, kept, Loaded, Stepped, WrittenOut, Replied, Answers}
+use Rattle.replies.specs.Texts.{ended, errorLine, watchdogLine, Prints}
+use Rattle.desk.specs.Replay.{Kept, fiveOf, kept, Loaded, Stepped, WrittenOut, Replied, Answers}
 
 answers-as : {P Q : List ℕ → Type 0} {l o : List ℕ} {k : ℕ} → ((t : List ℕ) → P t → Q t) → Answers P l o k → Answers Q l o k
 answers-as f a = record { printed = a .printed; told = f (a .printed) (a .told); prints = a .prints }
@@ -44,10 +44,10 @@ module _ (line : List ℕ) (n : ℕ) {c : Command} (e : c ≡ commandOf line) wh
     unfolding Replied
     watchdog f p = rw (is f) (record { printed = watchdogLine (k .five); told = (refl, refl); prints = p })
 
-    pub set : {last seen reported least greatest : ℕ} → c ≡ SetWatchdog last seen reported least greatest → Prints (ended (text "OK")) l o end
-        → Answers (Replied (commandOf line) line n k (kept (k .memory) (record { last = last; seen = seen; reported = reported; least = least; greatest = greatest }))) l o end
+    pub set : {last seen reported least greatest : ℕ} {w : five.Watchdog} → c ≡ SetWatchdog last seen reported least greatest → w ≡ fiveOf last seen reported least greatest → Prints (ended (text "OK")) l o end
+        → Answers (Replied (commandOf line) line n k (kept (k .memory) w)) l o end
     unfolding Replied
-    set f p = rw (is f) (record { printed = ended (text "OK"); told = (refl, refl); prints = p })
+    set f g p = rw (is f) (record { printed = ended (text "OK"); told = (ap (kept (k .memory)) g, refl); prints = p })
 
     module _ {after : Kept} where
       pub load : {at : ℕ} → c ≡ Load at → Answers (Loaded (decoded 16_400 (take (length line - at) (drop at line))) after) l o end

@@ -13,7 +13,7 @@ use Rattle.box_rules.specs.declared.Watchdog.{Watchdog}
 use Rattle.box_rules.specs.Answer.{Values, values}
 use Rattle.events.specs.Values.{listed}
 use Rattle.calls.specs.Calls.{Memory, memory, withRun, Steps, StepLeaves}
-use Rattle.desk.specs.Texts.{eventLine, outLine, Prints}
+use Rattle.replies.specs.Texts.{eventLine, outLine, Prints}
 use Rattle.desk.specs.Replay.{Kept, kept, Stepped, HeldIn, WrittenOut, Answers}
 use Rattle.desk.proofs.answer.Rooms.{zeros, lent-size, back}
 

@@ -7,7 +7,7 @@ use native.Mathlib.Omega.{arith}
 use lib.ListN.{length, take, drop}
 use lib.Seq.{take-at}
 use Rattle.lists.specs.Puts.{Puts}
-use Rattle.desk.specs.Texts.{Prints}
+use Rattle.replies.specs.Texts.{Prints}
 use Rattle.desk.specs.Replay.{Answers}
 use Rattle.replay.specs.declared.answers.Desk.{Desk}
 use Rattle.replay.specs.Gather.{Flushed, Roomy}

@@ -99,6 +99,9 @@ put-watchdog-requires c κs = search needs
 enum-known-command-7 : tie.Need-enum-known-command-7
 enum-known-command-7 c = search needs
 
+five-of-requires : tie.Need-five-of-requires
+five-of-requires c κs = search needs
+
 slice-aggregate-put-word-2 : tie.Need-slice-aggregate-put-word-2
 slice-aggregate-put-word-2 c = search needs
 
@@ -179,10 +182,10 @@ returns-10 c =
 returns-11 : tie.Need-returns-11
 unfolding text
 returns-11 c =
-    let e = c .before .before .before .before in
+    let e = c .before .before .before .before .before in
     let m = e .before .before in
     let a = m .before .before .args in
-    set (a .line .now) (a .number) (m .command-of .ensures) _ (e .command7 .given .1) (c .put-word2 .ensures)
+    set (a .line .now) (a .number) (m .command-of .ensures) _ (e .command7 .given .1) (c .before .before .before .five-of .ensures) (c .put-word2 .ensures)
 
 pub answer-spec : {M : Type 1} → statement M
 answer-spec =
@@ -216,6 +219,7 @@ answer-spec =
     enum-told-4
     put-watchdog-requires
     enum-known-command-7
+    five-of-requires
     slice-aggregate-put-word-2
     put-word-requires-2
     returns

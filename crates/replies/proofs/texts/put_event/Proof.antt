@@ -1,10 +1,10 @@
--- `desk::texts::put_event` meets its contract: the event is one of the four. Assumes nothing.
+-- `replies::texts::put_event` meets its contract: the event is one of the four. Assumes nothing.
 use native.Mathlib.Omega.{arith}
 use lib.ListN.{length-take}
 use borrow.Author.Needs.{needs}
-use Rattle.desk.proofs.texts.Events.{time-code-line, request-line, reply-line, reading-line}
-use Rattle.desk.proofs.texts.put_event.Statement.{statement}
-use Rattle.desk.proofs.texts.put_event.Tie as tie
+use Rattle.replies.proofs.texts.Events.{time-code-line, request-line, reply-line, reading-line}
+use Rattle.replies.proofs.texts.put_event.Statement.{statement}
+use Rattle.replies.proofs.texts.put_event.Tie as tie
 
 element-copy-out-number : tie.Need-element-copy-out-number
 element-copy-out-number c = search needs

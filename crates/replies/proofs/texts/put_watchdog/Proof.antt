@@ -1,8 +1,8 @@
--- `desk::texts::put_watchdog` meets its contract. Assumes nothing.
+-- `replies::texts::put_watchdog` meets its contract. Assumes nothing.
 use borrow.Author.Needs.{needs}
-use Rattle.desk.specs.Texts.{watchdogLine}
-use Rattle.desk.proofs.texts.put_watchdog.Statement.{statement}
-use Rattle.desk.proofs.texts.put_watchdog.Tie as tie
+use Rattle.replies.specs.Texts.{watchdogLine}
+use Rattle.replies.proofs.texts.put_watchdog.Statement.{statement}
+use Rattle.replies.proofs.texts.put_watchdog.Tie as tie
 
 yes-or-no-requires : tie.Need-yes-or-no-requires
 yes-or-no-requires c κs = search needs

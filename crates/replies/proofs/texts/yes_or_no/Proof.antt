@@ -1,8 +1,8 @@
--- `desk::texts::yes_or_no` meets its contract. Assumes nothing.
+-- `replies::texts::yes_or_no` meets its contract. Assumes nothing.
 use borrow.Author.Tests.{eq-eqb, ne-eqb}
-use Rattle.desk.specs.Texts.{yesOrNo}
-use Rattle.desk.proofs.texts.yes_or_no.Statement.{statement}
-use Rattle.desk.proofs.texts.yes_or_no.Tie as tie
+use Rattle.replies.specs.Texts.{yesOrNo}
+use Rattle.replies.proofs.texts.yes_or_no.Statement.{statement}
+use Rattle.replies.proofs.texts.yes_or_no.Tie as tie
 
 returns : tie.Need-returns
 unfolding yesOrNo

@@ -1,9 +1,9 @@
--- `desk::texts::put_error` meets its contract. Assumes nothing.
+-- `replies::texts::put_error` meets its contract. Assumes nothing.
 use borrow.Author.Needs.{needs}
 use Rattle.plan_rules.specs.Print.{text}
-use Rattle.desk.proofs.texts.Printed.{error-put}
-use Rattle.desk.proofs.texts.put_error.Statement.{statement}
-use Rattle.desk.proofs.texts.put_error.Tie as tie
+use Rattle.replies.proofs.texts.Printed.{error-put}
+use Rattle.replies.proofs.texts.put_error.Statement.{statement}
+use Rattle.replies.proofs.texts.put_error.Tie as tie
 
 slice-aggregate-put : tie.Need-slice-aggregate-put
 slice-aggregate-put c = search needs

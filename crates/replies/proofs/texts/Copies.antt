@@ -6,7 +6,7 @@ use lib.ListN.{take, drop}
 use Rattle.plan_rules.specs.declared.Copied.{Copied}
 use Rattle.plan_rules.specs.declared.Copied.the-variants.{NotWritten, Written}
 use Rattle.plan_rules.specs.Copy.{sized}
-use Rattle.desk.specs.Texts.{bytesLine, outLine, Prints}
+use Rattle.replies.specs.Texts.{bytesLine, outLine, Prints}
 
 module _ {l o : List ℕ} {k n : ℕ} {c : Copied} (buffer : List ℕ) where
   pub refused-line : c ≡ NotWritten n → Prints (bytesLine (n ∷ 0 ∷ []) (take 0 buffer)) l o k → Prints (outLine (sized c) buffer) l o k

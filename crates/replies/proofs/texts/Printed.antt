@@ -11,7 +11,7 @@ use Rattle.plan_rules.specs.Print.{text, decimal}
 use Rattle.line.specs.laws.Decimal.{decimal-most}
 use Rattle.script.specs.Lines.{inRow, hexText}
 use Rattle.script.specs.laws.Lengths.{row-most, hex-most}
-use Rattle.desk.specs.Texts.{ended, errorLine, numbersLine, bytesLine, Prints}
+use Rattle.replies.specs.Texts.{ended, errorLine, numbersLine, bytesLine, Prints}
 
 -- the newline ends it
 ends : {l o p s : List ℕ} {a k : ℕ} → length l ≡ 65_600 → length s + 1 ≤ 65_600 → Puts l 0 s o a → Puts o a (10 ∷ []) p k → Prints (ended s) l p k

@@ -8,7 +8,7 @@ use Rattle.box_rules.specs.declared.Event.the-variants.{TimeCode, Request, Repl
 use Rattle.box_rules.specs.Answer.{Values}
 use Rattle.box_rules.specs.Refuse.{recordSize}
 use Rattle.events.specs.Values.{listed}
-use Rattle.desk.specs.Texts.{numbersLine, bytesLine, eventLine, Prints}
+use Rattle.replies.specs.Texts.{numbersLine, bytesLine, eventLine, Prints}
 
 module _ {l o : List ℕ} {k : ℕ} {e : Event} (values records : List ℕ) (v : Values) (f : values ≡ listed v) where
   pub time-code-line : {byte clock size : ℕ} {part : List ℕ} → e ≡ TimeCode byte clock → size ≡ recordSize * getD values 1 0 → part ≡ take size (drop 0 records)

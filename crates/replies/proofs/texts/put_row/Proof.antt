@@ -1,8 +1,8 @@
--- `desk::texts::put_row` meets its contract. Assumes nothing.
+-- `replies::texts::put_row` meets its contract. Assumes nothing.
 use borrow.Author.Needs.{needs}
-use Rattle.desk.proofs.texts.Printed.{row-put}
-use Rattle.desk.proofs.texts.put_row.Statement.{statement}
-use Rattle.desk.proofs.texts.put_row.Tie as tie
+use Rattle.replies.proofs.texts.Printed.{row-put}
+use Rattle.replies.proofs.texts.put_row.Statement.{statement}
+use Rattle.replies.proofs.texts.put_row.Tie as tie
 
 put-numbers-requires : tie.Need-put-numbers-requires
 put-numbers-requires c κs = search needs

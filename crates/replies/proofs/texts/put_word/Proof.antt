@@ -1,8 +1,8 @@
--- `desk::texts::put_word` meets its contract. Assumes nothing.
+-- `replies::texts::put_word` meets its contract. Assumes nothing.
 use borrow.Author.Needs.{needs}
-use Rattle.desk.proofs.texts.Printed.{word-put}
-use Rattle.desk.proofs.texts.put_word.Statement.{statement}
-use Rattle.desk.proofs.texts.put_word.Tie as tie
+use Rattle.replies.proofs.texts.Printed.{word-put}
+use Rattle.replies.proofs.texts.put_word.Statement.{statement}
+use Rattle.replies.proofs.texts.put_word.Tie as tie
 
 put-requires : tie.Need-put-requires
 put-requires c κs = search needs

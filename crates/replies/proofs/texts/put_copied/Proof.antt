@@ -1,10 +1,10 @@
--- `desk::texts::put_copied` meets its contract: the plan was written or not. Assumes nothing.
+-- `replies::texts::put_copied` meets its contract: the plan was written or not. Assumes nothing.
 use native.Mathlib.Omega.{arith}
 use lib.ListN.{length-take}
 use borrow.Author.Needs.{needs}
-use Rattle.desk.proofs.texts.Copies.{refused-line, written-line}
-use Rattle.desk.proofs.texts.put_copied.Statement.{statement}
-use Rattle.desk.proofs.texts.put_copied.Tie as tie
+use Rattle.replies.proofs.texts.Copies.{refused-line, written-line}
+use Rattle.replies.proofs.texts.put_copied.Statement.{statement}
+use Rattle.replies.proofs.texts.put_copied.Tie as tie
 
 enum-known-copied : tie.Need-enum-known-copied
 enum-known-copied c = search needs

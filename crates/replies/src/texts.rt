@@ -2,7 +2,7 @@
 ghost use mathlib.Core.Path.{_≡_};
 ghost use Prim.Native.Nat.{_*_, _≤_};
 ghost use lib.ListN.{length};
-ghost use Rattle.desk.specs.Texts.{ended, errorLine, numbersLine, bytesLine, eventLine, outLine, yesOrNo, watchdogLine, Prints};
+ghost use Rattle.replies.specs.Texts.{ended, errorLine, numbersLine, bytesLine, eventLine, outLine, yesOrNo, watchdogLine, Prints};
 ghost use Rattle.plan_rules.specs.Copy.{sized};
 ghost use Rattle.box_rules.specs.Answer.{Values};
 ghost use Rattle.box_rules.specs.Refuse.{recordSize};
@@ -16,7 +16,7 @@ use reader::field::part;
 use script::lines::put_hex;
 use script::lines::put_numbers;
 
-pub(crate) fn put_error(out: &mut [u8; 65600], number: u64) -> usize
+pub fn put_error(out: &mut [u8; 65600], number: u64) -> usize
     ensures { λ r. ⌜ Prints (errorLine number) (now (out .entry)) (now (out .exit)) r ⌝ }
 {
     let a = put(out, 0, b"ERROR line ");
@@ -24,7 +24,7 @@ pub(crate) fn put_error(out: &mut [u8; 65600], number: u64) -> usize
     put(out, b, b"\n")
 }
 
-pub(crate) fn put_row(out: &mut [u8; 65600], ns: &[u32]) -> usize
+pub fn put_row(out: &mut [u8; 65600], ns: &[u32]) -> usize
     requires { ⌜ length (now ns) ≤ 5 ⌝ }
     ensures { λ r. ⌜ Prints (numbersLine (now (ns .entry))) (now (out .entry)) (now (out .exit)) r ⌝ }
 {
@@ -32,7 +32,7 @@ pub(crate) fn put_row(out: &mut [u8; 65600], ns: &[u32]) -> usize
     put(out, a, b"\n")
 }
 
-pub(crate) fn put_bytes(out: &mut [u8; 65600], ns: &[u32], bytes: &[u8]) -> usize
+pub fn put_bytes(out: &mut [u8; 65600], ns: &[u32], bytes: &[u8]) -> usize
     requires { ⌜ (length (now ns) ≤ 2) × (length (now bytes) ≤ 32_768) ⌝ }
     ensures { λ r. ⌜ Prints (bytesLine (now (ns .entry)) (now (bytes .entry))) (now (out .entry)) (now (out .exit)) r ⌝ }
 {
@@ -49,12 +49,7 @@ fn records_size(count: u32) -> usize
 }
 
 // The line of an event, by its answer's values and the record buffer after it: at most as many records as the buffer has.
-pub(crate) fn put_event(
-    out: &mut [u8; 65600],
-    event: Event,
-    values: &[u32; 8],
-    records: &[u8],
-) -> usize
+pub fn put_event(out: &mut [u8; 65600], event: Event, values: &[u32; 8], records: &[u8]) -> usize
     requires { ⌜ length (now records) ≤ 4_096 ⌝ }
     ensures { λ r. ⌜ ((v : Values) → now (values .entry) ≡ listed v → Prints (eventLine event v (now (records .entry))) (now (out .entry)) (now (out .exit)) r) ⌝ }
 {
@@ -95,7 +90,7 @@ fn yes_or_no(n: u32) -> u32
     if n == 0 { 0 } else { 1 }
 }
 
-pub(crate) fn put_watchdog(out: &mut [u8; 65600], w: Watchdog) -> usize
+pub fn put_watchdog(out: &mut [u8; 65600], w: Watchdog) -> usize
     ensures { λ r. ⌜ Prints (watchdogLine w) (now (out .entry)) (now (out .exit)) r ⌝ }
 {
     let ns = [
@@ -109,7 +104,7 @@ pub(crate) fn put_watchdog(out: &mut [u8; 65600], w: Watchdog) -> usize
 }
 
 // A fixed line.
-pub(crate) fn put_word(out: &mut [u8; 65600], word: &[u8]) -> usize
+pub fn put_word(out: &mut [u8; 65600], word: &[u8]) -> usize
     requires { ⌜ length (now word) ≤ 65_599 ⌝ }
     ensures { λ r. ⌜ Prints (ended (now (word .entry))) (now (out .entry)) (now (out .exit)) r ⌝ }
 {
@@ -118,7 +113,7 @@ pub(crate) fn put_word(out: &mut [u8; 65600], word: &[u8]) -> usize
 }
 
 // The line of a plan written out, by the answer and the buffer after it.
-pub(crate) fn put_copied(out: &mut [u8; 65600], copied: Copied, buffer: &[u8]) -> usize
+pub fn put_copied(out: &mut [u8; 65600], copied: Copied, buffer: &[u8]) -> usize
     requires { ⌜ length (now buffer) ≤ 32_768 ⌝ }
     ensures { λ r. ⌜ Prints (outLine (sized copied) (now (buffer .entry))) (now (out .entry)) (now (out .exit)) r ⌝ }
 {

@@ -1,9 +1,9 @@
--- `desk::texts::put_bytes` meets its contract. Assumes nothing.
+-- `replies::texts::put_bytes` meets its contract. Assumes nothing.
 use borrow.Author.Needs.{needs}
 use Rattle.plan_rules.specs.Print.{text}
-use Rattle.desk.proofs.texts.Printed.{bytes-put}
-use Rattle.desk.proofs.texts.put_bytes.Statement.{statement}
-use Rattle.desk.proofs.texts.put_bytes.Tie as tie
+use Rattle.replies.proofs.texts.Printed.{bytes-put}
+use Rattle.replies.proofs.texts.put_bytes.Statement.{statement}
+use Rattle.replies.proofs.texts.put_bytes.Tie as tie
 
 put-numbers-requires : tie.Need-put-numbers-requires
 put-numbers-requires c κs = search needs

@@ -1,0 +1,2 @@
+// The lines that commands of a script print.
+pub mod texts;
