@@ -16,9 +16,9 @@ use Rattle.box_rules.specs.declared.Answer.{Answer}
 use Rattle.box_rules.specs.declared.Watchdog as five
 use Rattle.box_rules.specs.Answer.{values}
 use Rattle.calls.specs.Calls.{Memory, ClearLeaves, LoadLeaves, Lent, StepLeaves}
+use Rattle.hex.specs.Hex.{bytesOf}
 use Rattle.script.specs.declared.command.Command.{Command}
 use Rattle.script.specs.declared.command.Command.the-variants.{Skip, Bad, Load, Clear, TimeCode, Request, Reply, Reading, Out, Watchdog, SetWatchdog}
-use Rattle.script.specs.Script.{bytesOf}
 use Rattle.replies.specs.Texts.{ended, errorLine, eventLine, outLine, watchdogLine, Prints}
 
 -- what is kept between commands: "The program keeps the five numbers between commands, as a box's caller does."

@@ -4,7 +4,8 @@ ghost use Prim.Native.Nat.{ℕ, _≤_};
 ghost use lib.ListN.{length, replicate};
 ghost use mathlib.Core.List.{List, []};
 ghost use Rattle.calls.specs.Calls.{memory};
-ghost use Rattle.script.specs.Script.{decoded, commandOf};
+ghost use Rattle.hex.specs.Hex.{decoded};
+ghost use Rattle.script.specs.Script.{commandOf};
 ghost use Rattle.replies.specs.Texts.{overLongLine, Prints};
 ghost use Rattle.desk.specs.Replay.{fiveOf, kept, Loaded, Stepped, WrittenOut, Replied, Answers};
 use box_rules::Event;
@@ -13,6 +14,7 @@ use calls::clear::clear_with;
 use calls::load::load_with;
 use events::step::step_with;
 use events::values::values_of;
+use hex::decode;
 use line::print::print_verdict;
 use line::print::put;
 use replies::texts::put_copied;
@@ -22,7 +24,6 @@ use replies::texts::put_watchdog;
 use replies::texts::put_word;
 use script::command::Command;
 use script::command::command_of;
-use script::hex::decode;
 
 // The length of what is to be printed, 0 for nothing, and the five numbers after it.
 pub struct Answered {

@@ -12,7 +12,8 @@ use Rattle.box_rules.specs.declared.Event.the-variants.{TimeCode, Request, Repl
 use Rattle.box_rules.specs.declared.Watchdog.{Watchdog}
 use Rattle.box_rules.specs.Answer.{Values}
 use Rattle.box_rules.specs.Refuse.{recordSize}
-use Rattle.script.specs.Lines.{inRow, hexText}
+use Rattle.words.specs.Lines.{inRow}
+use Rattle.hex.specs.Hex.{hexText}
 
 -- "exactly one line for each command"
 unfoldable pub ended : List ℕ → List ℕ

@@ -9,12 +9,12 @@ ghost use Rattle.box_rules.specs.Refuse.{recordSize};
 ghost use Rattle.events.specs.Values.{listed};
 use box_rules::Event;
 use box_rules::Watchdog;
+use hex::put_hex;
 use line::print::put;
 use line::print::put_decimal;
 use plan_rules::Copied;
 use reader::field::part;
-use script::lines::put_hex;
-use script::lines::put_numbers;
+use words::put_numbers;
 
 pub fn put_error(out: &mut [u8; 65600], number: u64) -> usize
     ensures { λ r. ⌜ Prints (errorLine number) (now (out .entry)) (now (out .exit)) r ⌝ }

@@ -1,5 +1,3 @@
 pub mod Script
-pub mod Reading
-pub mod Lines
 pub mod Samples
 pub mod laws

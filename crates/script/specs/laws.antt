@@ -1,5 +1,2 @@
-pub mod Words
-pub mod Lengths
-pub mod Bytes
 pub mod Loads
 pub mod Rooms

@@ -2,12 +2,12 @@
 ghost use mathlib.Core.Path.{_≡_};
 ghost use Prim.Native.Nat.{_≤_};
 ghost use lib.ListN.{length, take, drop};
+ghost use Rattle.words.specs.Reading.{behindWord};
 ghost use Rattle.script.specs.Script.{load, alone, timeCode, request, reply, reading, writeOut, setWatchdog, commands, named, commandOf};
-ghost use Rattle.script.specs.Reading.{behindWord};
-use crate::hex::is_bytes;
-use crate::words::numbers;
-use crate::words::same;
-use crate::words::word_length;
+use hex::is_bytes;
+use words::numbers;
+use words::same;
+use words::word_length;
 
 pub enum Command {
     // An empty line, or one that begins with `#`.

@@ -14,8 +14,8 @@ use Rattle.plan_rules.specs.Verdict.{place}
 use Rattle.plan_rules.specs.Print.{text, numbers, words, line}
 use Rattle.box_rules.specs.declared.Watchdog.{Watchdog}
 use Rattle.calls.specs.Calls.{Memory, LoadLeaves}
-use Rattle.script.specs.Script.{decoded}
-use Rattle.script.specs.laws.Lengths.{numbers-most}
+use Rattle.words.specs.laws.Lengths.{numbers-most}
+use Rattle.hex.specs.Hex.{decoded}
 use Rattle.desk.specs.Replay.{kept, Loaded, Answers}
 
 -- bytes at the front of a buffer

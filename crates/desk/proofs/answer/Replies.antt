@@ -9,10 +9,11 @@ use Rattle.plan_rules.specs.Print.{text}
 use Rattle.box_rules.specs.declared.Event.the-variants as event
 use Rattle.box_rules.specs.declared.Watchdog as five
 use Rattle.calls.specs.Calls.{Memory, ClearLeaves}
+use Rattle.hex.specs.Hex.{bytesOf, decoded}
+use Rattle.hex.specs.laws.Bytes.{bytes-decoded}
 use Rattle.script.specs.declared.command.Command.{Command}
 use Rattle.script.specs.declared.command.Command.the-variants.{Skip, Bad, Load, Clear, TimeCode, Request, Reply, Reading, Out, Watchdog, SetWatchdog}
-use Rattle.script.specs.Script.{bytesOf, decoded, commandOf}
-use Rattle.script.specs.laws.Bytes.{bytes-decoded}
+use Rattle.script.specs.Script.{commandOf}
 use Rattle.script.specs.laws.Loads.{load-line}
 use Rattle.script.specs.laws.Rooms.{Rooms, line-rooms}
 use Rattle.replies.specs.Texts.{ended, errorLine, watchdogLine, Prints}

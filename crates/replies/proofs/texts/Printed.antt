@@ -9,8 +9,10 @@ use Rattle.lists.specs.laws.Puts.{puts-then}
 use Rattle.lists.specs.laws.Stores.{put-front}
 use Rattle.plan_rules.specs.Print.{text, decimal}
 use Rattle.line.specs.laws.Decimal.{decimal-most}
-use Rattle.script.specs.Lines.{inRow, hexText}
-use Rattle.script.specs.laws.Lengths.{row-most, hex-most}
+use Rattle.words.specs.Lines.{inRow}
+use Rattle.words.specs.laws.Lengths.{row-most}
+use Rattle.hex.specs.Hex.{hexText}
+use Rattle.hex.specs.laws.Lengths.{hex-most}
 use Rattle.replies.specs.Texts.{ended, errorLine, numbersLine, bytesLine, Prints}
 
 -- the newline ends it

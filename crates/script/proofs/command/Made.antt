@@ -8,12 +8,13 @@ use lib.ListN.{length, getD, take, drop, length-drop, drop-of-length-le}
 use lib.Seq.{drop-cons, take-all, getD-take}
 use Rattle.lists.specs.Search.{isSome}
 use Rattle.lists.specs.laws.Bools.{not-some, is-some}
+use Rattle.words.specs.Words.{inFront, wordsOf, numbersOf}
+use Rattle.words.specs.Reading.{WordEnds, NumbersRead, behindWord}
+use Rattle.words.specs.laws.Words.{in-word-begin, left-over, more-words}
+use Rattle.hex.specs.Hex.{bytesOf}
 use Rattle.script.specs.declared.command.Command.{Command}
 use Rattle.script.specs.declared.command.Command.the-variants.{Bad, Load, TimeCode, Request, Reply, Reading, Out, SetWatchdog}
-use Rattle.script.specs.Script.{inFront, wordsOf, bytesOf, numbersOf, numbered, load, alone, timeCode, request, reply, reading, writeOut, setWatchdog}
-use Rattle.script.specs.Reading.{WordEnds, NumbersRead, behindWord}
-use Rattle.script.proofs.words.Split.{in-word-begin}
-use Rattle.script.proofs.words.Several.{left-over, more-words}
+use Rattle.script.specs.Script.{numbered, load, alone, timeCode, request, reply, reading, writeOut, setWatchdog}
 
 -- a command that is its name
 pub no-words : (c : Command) (line : List ℕ) (end : ℕ) → end ≡ length line → c ≡ alone c (behindWord (drop end line))

@@ -7,11 +7,12 @@ use native.Mathlib.Omega.{arith}
 use lib.ListN.{length, getD, take, drop}
 use borrow.Author.Tests.{eq-eqb, ne-eqb}
 use Rattle.plan_rules.specs.Print.{text}
+use Rattle.words.specs.Words.{same}
+use Rattle.words.specs.Reading.{WordEnds, behindWord}
+use Rattle.words.specs.laws.Words.{same-true}
 use Rattle.script.specs.declared.command.Command.{Command}
 use Rattle.script.specs.declared.command.Command.the-variants.{Skip, Bad}
-use Rattle.script.specs.Script.{same, commands, named, ofWords, commandOf}
-use Rattle.script.specs.Reading.{WordEnds, behindWord}
-use Rattle.script.specs.laws.Words.{same-true}
+use Rattle.script.specs.Script.{commands, named, ofWords, commandOf}
 
 -- the name that ends at a place is that of a row, and so are the words behind it read
 pub by-name : (line : List ℕ) (end : ℕ) (n : List ℕ) {x : Command} → same (take end line) n ≡ true → x ≡ named commands n (behindWord (drop end line))

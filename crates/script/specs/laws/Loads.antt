@@ -12,11 +12,13 @@ use Rattle.lists.specs.Search.{isSome}
 use Rattle.lists.specs.laws.Bools.{not-both}
 use Rattle.lists.specs.laws.Append.{Every}
 use Rattle.plan_rules.specs.Print.{text}
+use Rattle.words.specs.Words.{same, numbersOf}
+use Rattle.words.specs.Reading.{WordEnds, behindWord}
+use Rattle.words.specs.laws.Words.{same-true, first-word}
+use Rattle.hex.specs.Hex.{bytesOf}
 use Rattle.script.specs.declared.command.Command.{Command}
 use Rattle.script.specs.declared.command.Command.the-variants.{Skip, Bad, Load, Clear, TimeCode, Request, Reply, Reading, Out, Watchdog, SetWatchdog}
-use Rattle.script.specs.Script.{same, bytesOf, numbersOf, numbered, load, alone, timeCode, request, reply, reading, writeOut, setWatchdog, Row, commands, named, ofWords, commandOf}
-use Rattle.script.specs.Reading.{WordEnds, behindWord}
-use Rattle.script.specs.laws.Words.{same-true, first-word}
+use Rattle.script.specs.Script.{numbered, load, alone, timeCode, request, reply, reading, writeOut, setWatchdog, Row, commands, named, ofWords, commandOf}
 
 -- the line is a load of the byte string from a place on
 pub record Loads (s : List ℕ) (at : ℕ) : Type 0 where

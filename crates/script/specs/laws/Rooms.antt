@@ -2,26 +2,18 @@
 use mathlib.Core.Path.{_≡_, refl}
 use mathlib.Core.List.{List, [], _∷_}
 use mathlib.Core.Option.{Option, none, some}
-use mathlib.Core.Bool.{Bool, true, false, _&&_}
-use Prim.Native.Nat.{ℕ, zero, suc, _≤_, _<_}
+use mathlib.Core.Bool.{Bool, true, false}
+use Prim.Native.Nat.{ℕ, _≤_, _<_}
 use native.Mathlib.Omega.{arith}
 use lib.ListN.{length, getD}
-use lib.Dec.{ltb, leb, eqb}
-use borrow.Author.Tests.{leb-true}
-use Rattle.lists.specs.Search.{all}
+use lib.Dec.{eqb}
 use Rattle.lists.specs.laws.Append.{Every}
-use Rattle.lists.specs.laws.Bools.{both-true, when-some, none-some}
+use Rattle.words.specs.Words.{same, wordsOf, numbersOf}
+use Rattle.words.specs.laws.Numbers.{each-most}
+use Rattle.hex.specs.Hex.{bytesOf}
 use Rattle.script.specs.declared.command.Command.{Command}
 use Rattle.script.specs.declared.command.Command.the-variants.{Skip, Bad, Load, Clear, TimeCode, Request, Reply, Reading, Out, Watchdog, SetWatchdog}
-use Rattle.script.specs.Script.{same, wordsOf, isDigit, valueFrom, numberOf, bytesOf, before, numbersOf, numbered, load, alone, timeCode, request, reply, reading, writeOut, setWatchdog, Row, commands, named, ofWords, commandOf}
-
--- a number is at most its bound
-pub number-most : (most : ℕ) (w : List ℕ) (n : ℕ) → numberOf most w ≡ some n → n ≤ most
-unfolding numberOf
-number-most most w n e =
-    let p = when-some (ltb 0 (length w) && all isDigit w && leb (valueFrom 0 w) most) (valueFrom 0 w) n e in
-    let q = both-true (ltb 0 (length w) && all isDigit w) (leb (valueFrom 0 w) most) (p .0) in
-    omega (arith, leb-true (valueFrom 0 w) most (q .1), p .1)
+use Rattle.script.specs.Script.{numbered, load, alone, timeCode, request, reply, reading, writeOut, setWatchdog, Row, commands, named, ofWords, commandOf}
 
 -- "BUF (0 to 4,096)", "ROOM bytes (0 to 32,768)"
 abbrev pub Rooms : Command → Type 0
@@ -36,22 +28,6 @@ Rooms (Reading c) = Unit {0}
 Rooms (Out r) = r ≤ 32_768
 Rooms Watchdog = Unit {0}
 Rooms (SetWatchdog l s r b g) = Unit {0}
-
-each-most : (ms : List ℕ) (ws : List (List ℕ)) (ns : List ℕ) (i : ℕ) → numbersOf ms ws ≡ some ns → i < length ms → getD ns i 0 ≤ getD ms i 0
-unfolding numbersOf before
-each-most [] ws ns i e h = absurd (omega arith)
-each-most (m ∷ ms) [] ns i e h = none-some e
-each-most (m ∷ ms) (w ∷ ws) ns i e h = go (numberOf m w) refl (numbersOf ms ws) refl (each-most ms ws)
-  where
-    go : (o : Option ℕ) → numberOf m w ≡ o → (q : Option (List ℕ)) → numbersOf ms ws ≡ q
-        → ((rs : List ℕ) (j : ℕ) → numbersOf ms ws ≡ some rs → j < length ms → getD rs j 0 ≤ getD ms j 0) → getD ns i 0 ≤ getD (m ∷ ms) i 0
-    go none f q g ih = none-some (rw (f, numbersOf) at e)
-    go (some n) f none g ih = none-some (rw (f, numbersOf, g) at e)
-    go (some n) f (some rs) g ih = let z : n ∷ rs ≡ ns = cc (rw (f, numbersOf, g) at e) in rw (← z) (by i h)
-      where
-        by : (j : ℕ) → j < length (m ∷ ms) → getD (n ∷ rs) j 0 ≤ getD (m ∷ ms) j 0
-        by zero l = number-most m w n f
-        by (suc j) l = ih rs j g (omega arith)
 
 -- a command of numbers, and one of a table
 numbered-rooms : (mosts : List ℕ) (made : List ℕ → Command) (ws : List (List ℕ)) → ((ns : List ℕ) → ((i : ℕ) → i < length mosts → getD ns i 0 ≤ getD mosts i 0) → Rooms (made ns))

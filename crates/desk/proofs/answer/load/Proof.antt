@@ -2,7 +2,7 @@
 use lib.ListN.{length, replicate}
 use borrow.Author.Needs.{needs}
 use Rattle.plan_rules.specs.Print.{line}
-use Rattle.script.specs.Script.{decoded}
+use Rattle.hex.specs.Hex.{decoded}
 use Rattle.desk.proofs.answer.Loads.{front-within, front-size, load-answers}
 use Rattle.desk.proofs.answer.load.Statement.{statement}
 use Rattle.desk.proofs.answer.load.Tie as tie

@@ -3,7 +3,7 @@ use mathlib.Core.Path.{sym, _∙_}
 use Prim.Native.Nat.{_+_}
 use borrow.Author.Needs.{needs}
 use borrow.Author.Tests.{not-true, not-false}
-use Rattle.script.proofs.words.Split.{to-the-end}
+use Rattle.lists.specs.laws.Parts.{from-to-end}
 use Rattle.script.proofs.command.Made.{load-nothing, load-more, load-none, load-bytes}
 use Rattle.script.proofs.command.load.Statement.{statement}
 use Rattle.script.proofs.command.load.Tie as tie
@@ -30,7 +30,7 @@ returns-2 : tie.Need-returns-2
 returns-2 c =
     let w = c .before in
     let a = w .before .before .before .before .args in
-    load-more (a .line .now) _ (a .end) _ (search needs) (to-the-end (a .line .now) (a .end + 1)) (w .word-length .ensures) (c .if2 .taken)
+    load-more (a .line .now) _ (a .end) _ (search needs) (from-to-end (a .end + 1) (a .line .now)) (w .word-length .ensures) (c .if2 .taken)
 
 is-bytes-requires : tie.Need-is-bytes-requires
 is-bytes-requires c κs = search needs
@@ -39,14 +39,14 @@ returns-3 : tie.Need-returns-3
 returns-3 c =
     let w = c .before .before .before in
     let a = w .before .before .before .before .args in
-    load-none (a .line .now) _ (a .end) _ (search needs) (to-the-end (a .line .now) (a .end + 1)) (w .word-length .ensures) (c .before .before .if2 .left)
+    load-none (a .line .now) _ (a .end) _ (search needs) (from-to-end (a .end + 1) (a .line .now)) (w .word-length .ensures) (c .before .before .if2 .left)
     (sym (c .before .is-bytes .ensures) ∙ not-true _ (c .if3 .taken))
 
 returns-4 : tie.Need-returns-4
 returns-4 c =
     let w = c .before .before .before in
     let a = w .before .before .before .before .args in
-    load-bytes (a .line .now) _ (a .end) _ (search needs) (to-the-end (a .line .now) (a .end + 1)) (w .word-length .ensures) (c .before .before .if2 .left)
+    load-bytes (a .line .now) _ (a .end) _ (search needs) (from-to-end (a .end + 1) (a .line .now)) (w .word-length .ensures) (c .before .before .if2 .left)
     (sym (c .before .is-bytes .ensures) ∙ not-false _ (c .if3 .left))
 
 pub load-spec : {M : Type 1} → statement M

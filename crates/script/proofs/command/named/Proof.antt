@@ -4,8 +4,9 @@ use lib.ListN.{take, drop}
 use lib.Seq.{length-take-le}
 use borrow.Author.Needs.{needs}
 use Rattle.plan_rules.specs.Print.{text}
-use Rattle.script.specs.Script.{same, commands, named}
-use Rattle.script.specs.Reading.{behindWord}
+use Rattle.words.specs.Words.{same}
+use Rattle.words.specs.Reading.{behindWord}
+use Rattle.script.specs.Script.{commands, named}
 use Rattle.script.proofs.command.Names.{by-name, no-name}
 use Rattle.script.proofs.command.named.Statement.{statement}
 use Rattle.script.proofs.command.named.Tie as tie

@@ -2,8 +2,8 @@
 use lib.ListN.{drop}
 use borrow.Author.Needs.{needs}
 use borrow.Author.Tests.{not-true, not-false}
+use Rattle.words.specs.Reading.{behindWord}
 use Rattle.script.specs.Script.{setWatchdog}
-use Rattle.script.specs.Reading.{behindWord}
 use Rattle.script.proofs.command.Made.{numbers-bad, made-set-watchdog}
 use Rattle.script.proofs.command.set_watchdog.Statement.{statement}
 use Rattle.script.proofs.command.set_watchdog.Tie as tie

@@ -1,0 +1,4 @@
+-- Laws of bytes in hex.
+pub mod Values
+pub mod Pairs
+pub mod Text

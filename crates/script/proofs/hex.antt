@@ -1,3 +1,0 @@
--- Laws of bytes in hex.
-pub mod Values
-pub mod Pairs

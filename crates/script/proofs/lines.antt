@@ -1,3 +1,0 @@
--- Laws of an answer line.
-pub mod Rows
-pub mod Text

@@ -1,5 +1,0 @@
--- Laws of words and numbers.
-pub mod Equal
-pub mod Split
-pub mod Digits
-pub mod Several

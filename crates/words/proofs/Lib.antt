@@ -1,0 +1,6 @@
+-- Laws of words and numbers.
+pub mod Equal
+pub mod Split
+pub mod Digits
+pub mod Several
+pub mod Rows
