@@ -33,4 +33,6 @@ pub mod Kept
 pub mod Filled
 pub mod Counting
 pub mod Parts
+pub mod Answers
+pub mod Sames
 pub mod Lines

@@ -1,9 +1,9 @@
 // What the lamp on the jig and the reread at the counter ask, as C calls it: 1 for yes, 0 for no.
 ghost use Rattle.calls.specs.Calls.{memory};
 ghost use Rattle.spwd_c.specs.Exports.{IsBlank, HoldsIt};
+use blank::is_blank;
 use c_numbers::five::watchdog_of;
-use lamp::blank::is_blank;
-use lamp::holds::holds;
+use reread::holds;
 
 // Whether every number of memory and of the five is that of a clear.
 #[no_mangle]

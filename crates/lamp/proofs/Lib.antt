@@ -1,4 +1,0 @@
-pub mod Answers
-pub mod Sames
-pub mod Blanks
-pub mod Rereads
