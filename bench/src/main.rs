@@ -1,5 +1,6 @@
 //! The proved library beside the reference, in one run: nanoseconds for one call, the least of many rounds, the two sides by turns.
 //! Before a file is timed, both must print the same verdict on it and write the same bytes out; no event that is timed is refused.
+//! Below the times stands what memory a box of each kind has.
 
 mod events;
 mod sides;
@@ -7,7 +8,7 @@ mod timing;
 
 use compare::large;
 use sides::{Proved, Reference, Side};
-use spwd::WRITTEN_MOST;
+use spwd::{Plan, Spwd, WRITTEN_MOST};
 use std::hint::black_box;
 use timing::{by_turns, print_head, print_row};
 
@@ -36,6 +37,7 @@ fn main() {
     write_out("write out the same without entries", &no_entries);
     events::print_events(&maximal);
     clear();
+    print_memory();
 }
 
 /// A box of each kind with the file loaded, and the verdict. They must agree on it, and on the plan written out.
@@ -85,4 +87,22 @@ fn clear() {
         || black_box(&mut theirs).clear(),
     );
     print_row("clear", "", "", &least, &their_least);
+}
+
+fn print_memory() {
+    let watchdog = size_of::<reference::Watchdog>();
+    println!(
+        "\n{:<38}{:>10}{:>11}",
+        "memory, bytes", "proved", "reference"
+    );
+    for (name, ours, theirs) in [
+        ("plan", size_of::<Plan>().to_string(), String::new()),
+        (
+            "plan, run memory and five numbers",
+            size_of::<Spwd>().to_string(),
+            (size_of::<reference::Unit>() + watchdog).to_string(),
+        ),
+    ] {
+        println!("{name:<38}{ours:>10}{theirs:>11}");
+    }
 }
