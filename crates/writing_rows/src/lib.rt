@@ -4,11 +4,14 @@ ghost use mathlib.Core.Path.{_≡_};
 ghost use mathlib.Core.List.{flatMap};
 ghost use mathlib.Core.Bool.{true};
 ghost use Prim.Native.Nat.{ℕ, _+_, _%_, _≤_, _<_};
+ghost use lib.ListN.{length};
 ghost use Rattle.lists.specs.Search.{upFrom};
+ghost use Rattle.lists.specs.Stores.{Put};
 ghost use Rattle.lists.specs.Puts.{Puts};
 ghost use Rattle.plan_rules.specs.Plan.{nth};
 ghost use Rattle.writing_rows.specs.Out.{pathBytes, rises, entryBytes, eightBytes};
 use line::print::put;
+use line::print::put_bytes;
 use reader::field::part;
 use reader::field::wide;
 use sets::least;
@@ -48,15 +51,17 @@ pub fn put_paths(out: &mut [u8], at: usize, paths: &[u8; 1408], rows: usize) -> 
     k
 }
 
-// The members of a set, rising.
+// The members of a set, rising, where they have room.
 fn put_members(out: &mut [u8], at: usize, set: u64) -> usize
-    ensures { λ r. ⌜ Puts (now (out .entry)) at (rises set) (now (out .exit)) r ⌝ }
+    requires { ⌜ at + length (rises set) ≤ length (now out) ⌝ }
+    ensures { λ r. ⌜ Put (now (out .entry)) at (rises set) (now (out .exit)) r ⌝ }
 {
     let mut k = at;
     let mut rest = set;
     while rest != 0 {
-        let target = [least(rest) as u8];
-        k = put(out, k, &target);
+        let target = least(rest) as u8;
+        out[k] = target;
+        k += 1;
         rest = without_least(rest);
     }
     k
@@ -79,12 +84,21 @@ fn put_entry(
         return at;
     }
     let aim = aims[n];
+    let members = size(aim);
+    let whole = 6 + members as usize;
+    let room = out.len();
+    if room < whole {
+        return at;
+    }
+    if room - whole < at {
+        return at;
+    }
     // At most 67 bytes: their number has no high byte.
-    let size = 3 + size(aim) as u8;
+    let size = 3 + members as u8;
     let initiator = rows[n / 64];
     let slot = (n % 64) as u8;
     let start = [4, 0, size, initiator, slot, span];
-    let k = put(out, at, &start);
+    let k = put_bytes(out, at, &start);
     put_members(out, k, aim)
 }
 

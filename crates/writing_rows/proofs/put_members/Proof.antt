@@ -1,11 +1,13 @@
 -- `writing_rows::put_members` meets its contract. The loop's invariant: the members before the least that is left are put. Assumes nothing.
 use Prim.Native.Nat.{_-_}
 use native.Mathlib.Omega.{arith}
+use lib.ListN.{length-set}
 use borrow.Author.Needs.{needs}
+use Rattle.lists.specs.laws.Stores.{put-one}
 use Rattle.sets.specs.Set.{leastOf}
 use Rattle.sets.specs.Laws.{least-le}
 use Rattle.sets.specs.Walk.{Walk, walk-begin, walk-less, walk-next, walk-done}
-use Rattle.writing_rows.proofs.Parts.{memberByte, member-off, member-on, members-rise}
+use Rattle.writing_rows.proofs.Parts.{memberByte, member-off, member-on, members-rise, member-room}
 use Rattle.writing_rows.proofs.put_members.Statement.{statement}
 use Rattle.writing_rows.proofs.put_members.Tie as tie
 
@@ -21,37 +23,36 @@ loop-holds c = let a = c .before .args in walk-begin (memberByte (a .set)) (a .s
 least-requires : tie.Need-least-requires Inv-loop μ-loop
 least-requires c κs = search needs
 
-cast-t9 : tie.Need-cast-t9 Inv-loop μ-loop
-cast-t9 c = omega (arith, c .least .ensures, least-le (c .before .before .loop .rest))
+cast-target : tie.Need-cast-target Inv-loop μ-loop
+cast-target c = omega (arith, c .least .ensures, least-le (c .before .before .loop .rest))
 
-slice-aggregate-put : tie.Need-slice-aggregate-put Inv-loop μ-loop
-slice-aggregate-put c = search needs
+slice-write-out : tie.Need-slice-write-out Inv-loop μ-loop
+slice-write-out c = member-room (c .before .before .loop .inv) (c .before .loop-test .taken) (c .before .before .before .before .pre)
 
-put-requires : tie.Need-put-requires Inv-loop μ-loop
-put-requires c κs = search needs
+add-k : tie.Need-add-k Inv-loop μ-loop
+add-k c = omega (arith, slice-write-out c)
 
 without-least-requires : tie.Need-without-least-requires Inv-loop μ-loop
 without-least-requires c κs = search needs
 
 loop-less : tie.Need-loop-less Inv-loop μ-loop
 loop-less c =
-    let t = c .before .before .before .before .before .before .before in
+    let t = c .before .before in
     walk-less (t .before .loop .inv) (t .loop-test .taken) (c .without-least .result) (c .without-least .ensures)
 
 loop-again : tie.Need-loop-again Inv-loop μ-loop
 loop-again c =
-    let p = c .before .before .before in
-    let m = p .before .before .before in
+    let m = c .before in
     let l = m .before .before in
     let set = l .before .before .args .set in
     walk-next (l .loop .inv) (m .before .loop-test .taken) (c .without-least .result) (c .without-least .ensures) (search needs)
-    (m .least .ensures) (member-on set (m .least .result)) (p .put .kept .0) (p .put .ensures)
+    (m .least .ensures) (member-on set (m .least .result)) (simp length-set) (record { fitting = λ _. put-one (l .loop .out) (l .loop .k) (m .least .result) })
 
 same-length : tie.Need-same-length Inv-loop μ-loop
 same-length c = c .before .loop .inv .turns .same
 
 returns : tie.Need-returns Inv-loop μ-loop
-returns c = rw (members-rise (c .before .before .before .args .set)) at (walk-done (c .before .loop .inv) (c .loop-test .left))
+returns c = let s = c .before .before .before in (rw (members-rise (s .args .set)) at (walk-done (c .before .loop .inv) (c .loop-test .left))) .fitting (s .pre)
 
 pub put-members-spec : {M : Type 1} → statement M
 put-members-spec =
@@ -61,9 +62,9 @@ put-members-spec =
     μ-loop
     loop-holds
     least-requires
-    cast-t9
-    slice-aggregate-put
-    put-requires
+    cast-target
+    slice-write-out
+    add-k
     without-least-requires
     loop-less
     loop-again
