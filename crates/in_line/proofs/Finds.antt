@@ -1,5 +1,6 @@
 -- The search of the line, place by place: what was passed, and what is found.
-use mathlib.Core.Path.{_≡_, sym, _∙_}
+use mathlib.Core.Path.{_≡_, refl, sym, ap, _∙_}
+use mathlib.Core.Option.{Option, none, some}
 use mathlib.Core.Bool.{Bool, true, false}
 use mathlib.Core.Logic.{by-cases}
 use mathlib.Core.List.{List}
@@ -7,8 +8,11 @@ use Prim.Native.Nat.{ℕ, _+_, _≤_, _<_}
 use native.Mathlib.Decide.{decLt}
 use native.Mathlib.Omega.{arith}
 use lib.ListN.{length, getD}
-use Rattle.lists.specs.Place.{first}
-use Rattle.lists.specs.laws.Place.{at-member}
+use lib.Dec.{eqb}
+use borrow.Author.Tests.{ne-eqb}
+use Rattle.lists.specs.Place.{Found, first}
+use Rattle.lists.specs.laws.Bools.{not-both}
+use Rattle.lists.specs.laws.Place.{at-member, first-some}
 use Rattle.lists.specs.laws.Lines.{Passed, placed, first-at, first-none}
 use Rattle.plan_rules.specs.Plan.{Plan, Entry}
 use Rattle.box_rules.specs.State.{Request, Side}
@@ -29,6 +33,11 @@ Says word targets span b = (p : Plan) (e : Entry) (r : Request) → Tells target
 abbrev pub Finds : List ℕ → ℕ → ℕ → ℕ → Type 0
 Finds row targets span i =
     (s : Side) → FitSide s → row ≡ rowOf s → (p : Plan) (e : Entry) → Tells targets span e → i ≡ placeOr 8 (first (allows p e) (s .line))
+
+-- whether what is found is the oldest of all
+abbrev pub FindsOldest : List ℕ → ℕ → ℕ → Bool → Type 0
+FindsOldest row targets span b =
+    (s : Side) → FitSide s → row ≡ rowOf s → (p : Plan) (e : Entry) → Tells targets span e → b ≡ eqb (placeOr 8 (first (allows p e) (s .line))) 0
 
 module _ (row : List ℕ) (targets span : ℕ) where
   pub seek-begin : Sought row targets span 0
@@ -52,3 +61,19 @@ module _ (row : List ℕ) (targets span : ℕ) where
     pub seek-none : ((s : Side) → FitSide s → row ≡ rowOf s → length (s .line) ≤ i) → Finds row targets span 8
     unfolding placeOr
     seek-none all s f is p e t = rw (first-none (allows p e) (s .line) i (before s f is p e t) (all s f is))
+
+  -- the oldest of all, by itself
+  pub oldest-none : getD row 1 0 ≡ 0 → FindsOldest row targets span false
+  oldest-none z s f is p e t =
+      ap (λ (i : ℕ). eqb i 0) (seek-none 0 seek-begin (λ w g at. omega (arith, count-at w g row at)) s f is p e t)
+
+  pub oldest-told : (b : Bool) → Says (getD row 2 0) targets span b → 0 < getD row 1 0 → FindsOldest row targets span b
+  unfolding placeOr
+  oldest-told true says l s f is p e t = ap (λ (i : ℕ). eqb i 0) (seek-found 0 seek-begin true says refl l s f is p e t)
+  oldest-told false says l s f is p e t = by (first (allows p e) (s .line)) refl
+    where
+      by : (o : Option (Found Request)) → first (allows p e) (s .line) ≡ o → false ≡ eqb (placeOr 8 o) 0
+      by none q = refl
+      by (some g) q =
+          let (at, yes′) = first-some (allows p e) (s .line) g q in
+          sym (ne-eqb (g .place) 0 (λ z. not-both yes′ (seek-next 0 seek-begin false says refl s f is p e t (g .place) (g .what) (omega arith) at)))

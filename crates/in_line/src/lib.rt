@@ -2,8 +2,10 @@
 // Each contract holds for every side that the row is of.
 ghost use mathlib.Core.Path.{_≡_};
 ghost use mathlib.Core.List.{[], _∷_, _++_};
+ghost use mathlib.Core.Bool.{true};
 ghost use Prim.Native.Nat.{_+_, _%_, _<_};
 ghost use lib.ListN.{length, getD};
+ghost use lib.Dec.{eqb};
 ghost use Rattle.lists.specs.Place.{first, without};
 ghost use Rattle.plan_rules.specs.Plan.{Plan, Entry};
 ghost use Rattle.box_rules.specs.State.{Side, Request};
@@ -49,6 +51,18 @@ fn permits_word(word: u64, targets: u64, span: u8) -> bool
         (word % 256) as u8,
         (word / 65536 % 65536) as u16,
     )
+}
+
+// Whether a request waits and the entry permits the oldest.
+pub fn permits_oldest(row: &[u64], targets: u64, span: u8) -> bool
+    requires { ⌜ IsRow (now row) ⌝ }
+    ensures { λ r. ⌜ (r ≡ true → 0 < getD (now (row .entry)) 1 0) ⌝ }
+    ensures { λ r. ⌜ ((s : Side) → FitSide s → now (row .entry) ≡ rowOf s → (p : Plan) (e : Entry) → Tells targets span e → r ≡ eqb (placeOr 8 (first (allows p e) (s .line))) 0) ⌝ }
+{
+    if row[1] == 0 {
+        return false;
+    }
+    permits_word(row[2], targets, span)
 }
 
 // The place of the oldest waiting request that the entry permits, 8 for none.

@@ -1,5 +1,5 @@
 -- The start of a request: nothing starts, or the one that is found leaves the line and is live.
-use mathlib.Core.Path.{_≡_, refl, ap, _∙_}
+use mathlib.Core.Path.{_≡_, refl, sym, ap, _∙_}
 use mathlib.Core.List.{List}
 use mathlib.Core.Option.{Option, none, some}
 use mathlib.Core.Bool.{true, false}
@@ -12,18 +12,22 @@ use Rattle.lists.specs.laws.Place.{first-some, without-member, without-short}
 use Rattle.lists.specs.laws.Lines.{at-below}
 use Rattle.plan_rules.specs.Plan.{Plan, Entry}
 use Rattle.box_rules.specs.State.{Request, Side}
-use Rattle.box_rules.specs.Turn.{allows, startAt, starting, fresh, begun}
+use Rattle.box_rules.specs.Turn.{Start, allows, startAt, starting, fresh, begun}
 use Rattle.box_rules.specs.laws.Fit.{FitSide}
 use Rattle.plan_view.specs.View.{placeOr}
-use Rattle.initiators.specs.Run.{wordOf, liveWord, liveTime, rowOf}
+use Rattle.initiators.specs.Run.{liveWord, liveTime, rowOf}
 use Rattle.in_line.specs.Line.{leaves}
-use Rattle.turns.specs.Turns.{startedOf}
+use Rattle.turns.specs.Turns.{startedOf, StartsAt}
 use Rattle.turns.specs.declared.Started.{Started}
 use Rattle.initiators.specs.laws.RowWords.{place-at, live-set}
 
--- the answer and the row once the entry has been visited
+-- the answer and the row once a start has been made, or none
+abbrev pub Begins : Side → Option Start → Started → List ℕ → Type 0
+Begins s o r row = (r ≡ startedOf o) × (row ≡ rowOf (begun s o))
+
+-- the same once the entry has been visited
 abbrev pub Starts : Side → Plan → Entry → Started → List ℕ → Type 0
-Starts s p e r row = (r ≡ startedOf (starting p (some e) s)) × (row ≡ rowOf (begun s (starting p (some e) s)))
+Starts s p e r row = Begins s (starting p (some e) s) r row
 
 leaves-fit : (s : Side) (k : ℕ) → FitSide s → FitSide (leaves k s)
 unfolding leaves
@@ -33,6 +37,15 @@ leaves-fit s k f = record {
   line = λ r m. f .line r (without-member (s .line) k r m);
   live = f .live;
 }
+
+-- the request at place k leaves the line and is live
+pub begins-at : (s : Side) → FitSide s → (row : List ℕ) → row ≡ rowOf s → (k span : ℕ) (x : Start) → StartsAt k span s x
+    → (y : List ℕ) (t : ℕ) → y ≡ rowOf (leaves k s) → t ≡ span * 256 + 0
+    → Begins s (some x) (record { started = true; word = getD row (k + 2) 0 }) (set (set y 10 (getD row (k + 2) 0)) 11 t)
+unfolding startedOf begun fresh rowOf leaves liveWord liveTime
+begins-at s f row is k span x a y t ey et =
+    let w = place-at s f row is k (x .found .what) (a .what) in
+    (rw w, live-set (leaves k s) (leaves-fit s k f) y ey (getD row (k + 2) 0) t ∙ rw (w, et, a .place, a .span))
 
 module _ (s : Side) (f : FitSide s) (row : List ℕ) (is : row ≡ rowOf s) (p : Plan) (e : Entry) where
   starts-none : starting p (some e) s ≡ none → Starts s p e (record { started = false; word = 0 }) row
@@ -68,14 +81,9 @@ module _ (s : Side) (f : FitSide s) (row : List ℕ) (is : row ≡ rowOf s) (p :
     unfolding startAt
     starts-nothing h = starts-none (sought ∙ ap (startAt e) (none-found h (first (allows p e) (s .line)) refl))
 
-    pub starts-one : k < 8 → (x : List ℕ) (t : ℕ) → x ≡ rowOf (leaves k s) → t ≡ e .span * 256 + 0
-        → Starts s p e (record { started = true; word = getD row (k + 2) 0 }) (set (set x 10 (getD row (k + 2) 0)) 11 t)
-    unfolding startAt startedOf begun fresh rowOf leaves liveWord liveTime
-    starts-one h x t ex et = let (g, q, z) = one-found h (first (allows p e) (s .line)) refl in by g q z
-      where
-        by : (g : Found Request) → first (allows p e) (s .line) ≡ some g → k ≡ g .place
-            → Starts s p e (record { started = true; word = getD row (k + 2) 0 }) (set (set x 10 (getD row (k + 2) 0)) 11 t)
-        by g q z =
-            let w : getD row (k + 2) 0 ≡ wordOf (g .what) = place-at s f row is k (g .what) (ap (λ (j : ℕ). atPlace j (s .line)) z ∙ stands g q) in
-            let y : starting p (some e) s ≡ some (record { entry = e; found = g }) = sought ∙ ap (startAt e) q in
-            (rw (w, y), live-set (leaves k s) (leaves-fit s k f) x ex (getD row (k + 2) 0) t ∙ rw (y, w, et, ← z))
+    pub starts-one : k < 8 → (span : ℕ) → e .span ≡ span → (r : Started) (y : List ℕ) → ((x : Start) → StartsAt k span s x → Begins s (some x) r y) → Starts s p e r y
+    unfolding startAt
+    starts-one h span es r y does =
+        let (g, q, z) = one-found h (first (allows p e) (s .line)) refl in
+        rw (sought ∙ ap (startAt e) q)
+        (does (record { entry = e; found = g }) (record { place = sym z; what = ap (λ (j : ℕ). atPlace j (s .line)) z ∙ stands g q; span = es }))

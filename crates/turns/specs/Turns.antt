@@ -1,7 +1,10 @@
--- What the functions on one initiator at a time-code answer.
+-- What the functions on one initiator at a time-code answer, and what makes a start that of a place in the line.
+use mathlib.Core.Path.{_≡_}
+use Prim.Native.Nat.{ℕ}
 use mathlib.Core.Option.{Option, none, some}
 use mathlib.Core.Bool.{Bool, true, false, cond}
-use Rattle.box_rules.specs.State.{Live}
+use Rattle.lists.specs.Place.{atPlace}
+use Rattle.box_rules.specs.State.{Live, Side}
 use Rattle.box_rules.specs.Turn.{Start, isLate}
 use Rattle.initiators.specs.Run.{wordOf}
 use Rattle.turns.specs.declared.Late.{Late}
@@ -16,3 +19,9 @@ lateOf q (some l) = cond (isLate q l) (record { late = true; word = wordOf (l .r
 unfoldable pub startedOf : Option Start → Started
 startedOf none = record { started = false; word = 0 }
 startedOf (some x) = record { started = true; word = wordOf (x .found .what) }
+
+-- a start of the request at place k, at an entry of this span
+pub record StartsAt (k span′ : ℕ) (s : Side) (x : Start) : Type 0 where
+  pub place : x .found .place ≡ k
+  pub what : atPlace k (s .line) ≡ some (x .found .what)
+  pub span : x .entry .span ≡ span′

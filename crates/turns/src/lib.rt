@@ -2,15 +2,18 @@
 // Each contract holds for every side that the row is of.
 ghost use mathlib.Core.Path.{_≡_};
 ghost use mathlib.Core.Option.{some};
+ghost use Prim.Native.Nat.{_<_};
+ghost use lib.ListN.{getD};
 ghost use Rattle.plan_rules.specs.Plan.{Plan, Entry};
 ghost use Rattle.box_rules.specs.State.{Side, Live};
-ghost use Rattle.box_rules.specs.Turn.{aged, isLate, starting, begun};
+ghost use Rattle.box_rules.specs.Turn.{Start, aged, isLate, starting, begun};
 ghost use Rattle.box_rules.specs.laws.Fit.{FitSide, FitLive};
 ghost use Rattle.plan_view.specs.View.{Tells};
 ghost use Rattle.initiators.specs.Run.{rowOf, liveTime};
 ghost use Rattle.initiators.specs.Row.{IsRow};
-ghost use Rattle.turns.specs.Turns.{lateOf, startedOf};
+ghost use Rattle.turns.specs.Turns.{lateOf, startedOf, StartsAt};
 use in_line::find_row;
+use in_line::permits_oldest;
 use in_line::take_row;
 use initiators::row::finish_row;
 use initiators::row::has_live;
@@ -65,7 +68,24 @@ pub fn age_row(row: &mut [u64], in_sequence: bool) -> Late
     }
 }
 
+// The request at place k leaves the line and is live.
+fn begin_at(row: &mut [u64], k: usize, span: u8) -> Started
+    requires { ⌜ IsRow (now row) × (k < 8) × (k < getD (now row) 1 0) ⌝ }
+    ensures { λ r. ⌜ ((s : Side) → FitSide s → now (row .entry) ≡ rowOf s → (x : Start) → StartsAt k span s x →
+        (r ≡ startedOf (some x)) × (now (row .exit) ≡ rowOf (begun s (some x)))) ⌝ }
+{
+    let word = row[k + 2];
+    take_row(row, k);
+    row[10] = word;
+    row[11] = 256 * span as u64;
+    Started {
+        started: true,
+        word: word,
+    }
+}
+
 // "the oldest waiting request it permits (target and 256 × span) starts"; "Were that initiator still live, … nothing starts."
+// Most often that is the oldest of all: tried by itself, it leaves the line with no test of its place.
 pub fn start_row(row: &mut [u64], targets: u64, span: u8) -> Started
     requires { ⌜ IsRow (now row) ⌝ }
     ensures { λ r. ⌜ ((s : Side) → FitSide s → now (row .entry) ≡ rowOf s → (p : Plan) (e : Entry) → Tells targets span e →
@@ -77,6 +97,9 @@ pub fn start_row(row: &mut [u64], targets: u64, span: u8) -> Started
             word: 0,
         };
     }
+    if permits_oldest(row, targets, span) {
+        return begin_at(row, 0, span);
+    }
     let k = find_row(row, targets, span);
     if k >= 8 {
         return Started {
@@ -84,12 +107,5 @@ pub fn start_row(row: &mut [u64], targets: u64, span: u8) -> Started
             word: 0,
         };
     }
-    let word = row[k + 2];
-    take_row(row, k);
-    row[10] = word;
-    row[11] = 256 * span as u64;
-    Started {
-        started: true,
-        word: word,
-    }
+    begin_at(row, k, span)
 }
