@@ -1,7 +1,7 @@
 // 3. "kind 4 for each late transaction", initiators rising.
 ghost use mathlib.Core.Path.{_≡_};
 ghost use mathlib.Core.List.{flatMap};
-ghost use Prim.Native.Nat.{ℕ, _<_};
+ghost use Prim.Native.Nat.{ℕ, _+_, _≤_, _<_};
 ghost use lib.ListN.{length};
 ghost use Rattle.lists.specs.Puts.{Puts};
 ghost use Rattle.plan_rules.specs.Plan.{Plan};
@@ -27,10 +27,10 @@ fn late_row(
     v: u8,
     in_sequence: bool,
 ) -> usize
-    requires { ⌜ IsRow (now row) ⌝ }
+    requires { ⌜ IsRow (now row) × (at + 8 ≤ length (now out)) ⌝ }
     ensures { λ r. ⌜ ((clock : ℕ) (s : Side) → FitSide s → now (row .entry) ≡ rowOf s →
         (now (row .exit) ≡ rowOf (aged «in_sequence» s))
-        × Puts (now (out .entry)) at (flatMap (recordBytes clock) (lateRecord «in_sequence» initiator v (s .live))) (now (out .exit)) r) ⌝ }
+        × Puts (now (out .entry)) at (flatMap (recordBytes clock) (lateRecord «in_sequence» initiator v (s .live))) (now (out .exit)) r) × (r ≤ at + 8) ⌝ }
 {
     let late = age_row(row, in_sequence);
     let word = late.word;
@@ -50,10 +50,10 @@ fn late_at(
     v: u8,
     in_sequence: bool,
 ) -> usize
-    requires { ⌜ (length (now run) ≡ 96) × (row < 8) ⌝ }
+    requires { ⌜ (length (now run) ≡ 96) × (row < 8) × (at + 8 ≤ length (now out)) ⌝ }
     ensures { λ r. ⌜ ((clock : ℕ) (s : ℕ → Side) → ((k : ℕ) → FitSide (s k)) → now (run .entry) ≡ rowsWith s →
         (now (run .exit) ≡ rowsWith (changed row (aged «in_sequence» (s row)) s))
-        × Puts (now (out .entry)) at (flatMap (recordBytes clock) (lateRecord «in_sequence» initiator v ((s row) .live))) (now (out .exit)) r) ⌝ }
+        × Puts (now (out .entry)) at (flatMap (recordBytes clock) (lateRecord «in_sequence» initiator v ((s row) .live))) (now (out .exit)) r) × (r ≤ at + 8) ⌝ }
 {
     late_row(
         &mut run[row * 12..row * 12 + 12],
@@ -75,10 +75,11 @@ pub fn report_late(
     v: u8,
     in_sequence: bool,
 ) -> usize
+    requires { ⌜ at + 64 ≤ length (now out) ⌝ }
     ensures { λ r. ⌜ ((clock size : ℕ) (p : Plan) (side : ℕ → Side) → Sound p → now (rows .entry) ≡ rowsOf p → now (numbers .entry) ≡ numbersWith size p →
         ((i : ℕ) → FitSide (side i)) → now (run .entry) ≡ runOf p side →
         (now (run .exit) ≡ runOf p (λ (i : ℕ). aged «in_sequence» (side i)))
-        × Puts (now (out .entry)) at (flatMap (recordBytes clock) (flatMap (λ (i : ℕ). lateRecord «in_sequence» i v ((side i) .live)) (initiators p))) (now (out .exit)) r) ⌝ }
+        × Puts (now (out .entry)) at (flatMap (recordBytes clock) (flatMap (λ (i : ℕ). lateRecord «in_sequence» i v ((side i) .live)) (initiators p))) (now (out .exit)) r) × (r ≤ at + 64) ⌝ }
 {
     let count = count_of(numbers);
     let mut k = at;

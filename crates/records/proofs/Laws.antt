@@ -4,7 +4,9 @@ use mathlib.Core.List.{List, [], _∷_, flatMap}
 use mathlib.Core.Bool.{Bool, true, false}
 use Prim.Native.Nat.{ℕ, _+_, _*_, _/_, _%_, _≤_, _<_}
 use native.Mathlib.Omega.{arith}
+use lib.ListN.{length}
 use Rattle.lists.specs.Search.{only}
+use Rattle.lists.specs.Stores.{Put}
 use Rattle.lists.specs.Puts.{Puts}
 use Rattle.lists.specs.laws.Puts.{puts-none}
 use Rattle.box_rules.specs.declared.Watchdog.{Watchdog}
@@ -100,7 +102,7 @@ short n h = omega arith
 pub full-puts : {l o : List ℕ} {j k : ℕ} (clock kind i v w t s : ℕ) (x : Request) → FitRequest x → w ≡ wordOf x → kind < 256 → i < 256 → v < 256
     → t ≡ w / 65_536 / 16_777_216 % 256 + w / 65_536 / 65_536 % 256 * 256 + w / 65_536 / 256 % 256 * 65_536 + w / 65_536 % 256 * 16_777_216
     → s ≡ (kind + v * 16_777_216) + (i * 256 + w % 256 * 65_536) + t * 4_294_967_296
-    → Puts l j (bytesOf s) o k → Puts l j (recordBytes clock (full kind i v x)) o k
+    → Put l j (bytesOf s) o k → Puts l j (recordBytes clock (full kind i v x)) o k
 unfolding recordBytes full
 full-puts clock kind i v w t s x f is k< i< v< et es p =
     let m = halves x f in
@@ -113,10 +115,14 @@ full-puts clock kind i v w t s x f is k< i< v< et es p =
     (high-byte (x .number) (f .number)) (low-byte (x .number)) (high-byte (x .length) l<) (low-byte (x .length)) s
     (es ∙ ap₂ (λ (y z : ℕ). (kind + v * 16_777_216) + (i * 256 + y * 65_536) + z * 4_294_967_296) target et′)
     in
-    rw b at p
+    record { fitting = λ _. rw b at p }
 
 -- one record, and none
 module _ (clock : ℕ) {l o : List ℕ} {i k : ℕ} where
+  pub plain-next : (kind v : ℕ) → Puts l i (recordBytes clock (plain kind v)) o k → i + 8 ≤ length l → k ≤ i + 8
+  unfolding recordBytes plain
+  plain-next kind v p h = omega (arith, p .fitting h .next)
+
   module _ (w : Watchdog) (v : ℕ) (b : Bool) (early : b ≡ isEarly w clock) where
     pub watchdog-early : b ≡ true → Puts l i (recordBytes clock (plain 1 v)) o k → Puts l i (flatMap (recordBytes clock) (watchdogRecord w clock v)) o k
     unfolding watchdogRecord

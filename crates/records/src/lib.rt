@@ -1,7 +1,10 @@
-// Records, put into a lent buffer one behind the other. Nothing is stored where there is no room.
+// Records, put into a lent buffer one behind the other. Nothing is stored beyond its end.
 ghost use mathlib.Core.Path.{_≡_};
 ghost use mathlib.Core.List.{flatMap};
-ghost use Prim.Native.Nat.{ℕ, _+_, _*_, _/_, _%_, _<_};
+ghost use mathlib.Core.Bool.{true};
+ghost use Prim.Native.Nat.{ℕ, _+_, _*_, _/_, _%_, _≤_, _<_};
+ghost use lib.ListN.{length};
+ghost use Rattle.lists.specs.Stores.{Put};
 ghost use Rattle.lists.specs.Puts.{Puts};
 ghost use Rattle.box_rules.specs.State.{Request};
 ghost use Rattle.box_rules.specs.Records.{recordBytes, plain, full, watchdogRecord, sequenceRecord};
@@ -10,6 +13,7 @@ ghost use Rattle.initiators.specs.Run.{wordOf};
 ghost use Rattle.records.specs.Bytes.{bytesOf};
 use box_rules::Watchdog;
 use line::print::put;
+use line::print::put_bytes;
 use watchdog::watch::is_early;
 use watchdog::watch::is_overdue;
 
@@ -23,7 +27,8 @@ fn put_plain(out: &mut [u8], at: usize, kind: u8, v: u8) -> usize
 
 // The eight bytes of a word, the lowest first: one store for the compiler.
 fn put_word(out: &mut [u8], at: usize, word: u64) -> usize
-    ensures { λ r. ⌜ Puts (now (out .entry)) at (bytesOf word) (now (out .exit)) r ⌝ }
+    requires { ⌜ at + 8 ≤ length (now out) ⌝ }
+    ensures { λ r. ⌜ Put (now (out .entry)) at (bytesOf word) (now (out .exit)) r ⌝ }
 {
     let bytes = [
         (word % 256) as u8,
@@ -35,7 +40,7 @@ fn put_word(out: &mut [u8], at: usize, word: u64) -> usize
         (word / 281_474_976_710_656 % 256) as u8,
         (word / 72_057_594_037_927_936 % 256) as u8,
     ];
-    put(out, at, &bytes)
+    put_bytes(out, at, &bytes)
 }
 
 // The four low bytes of a word in the other order.
@@ -50,7 +55,8 @@ fn swapped(word: u64) -> u64
 
 // "kinds 4 to 6 fill all": of the request of a word. Number and length stand in it one above the other, high byte last.
 pub fn put_full(out: &mut [u8], at: usize, kind: u8, initiator: u8, v: u8, word: u64) -> usize
-    ensures { λ r. ⌜ ((clock : ℕ) (x : Request) → FitRequest x → word ≡ wordOf x → Puts (now (out .entry)) at (recordBytes clock (full kind initiator v x)) (now (out .exit)) r) ⌝ }
+    requires { ⌜ at + 8 ≤ length (now out) ⌝ }
+    ensures { λ r. ⌜ ((clock : ℕ) (x : Request) → FitRequest x → word ≡ wordOf x → Puts (now (out .entry)) at (recordBytes clock (full kind initiator v x)) (now (out .exit)) r) × (r ≡ at + 8) ⌝ }
 {
     let head = (kind as u64 + v as u64 * 16_777_216)
         + (initiator as u64 * 256 + word % 256 * 65_536);
@@ -60,7 +66,7 @@ pub fn put_full(out: &mut [u8], at: usize, kind: u8, initiator: u8, v: u8, word:
 
 // 1. "watchdog: kind 1 early …, else kind 2 late"
 pub fn put_watchdog(out: &mut [u8], at: usize, w: Watchdog, clock: u32, v: u8) -> usize
-    ensures { λ r. ⌜ Puts (now (out .entry)) at (flatMap (recordBytes clock) (watchdogRecord w clock v)) (now (out .exit)) r ⌝ }
+    ensures { λ r. ⌜ Puts (now (out .entry)) at (flatMap (recordBytes clock) (watchdogRecord w clock v)) (now (out .exit)) r × (at + 8 ≤ length (now (out .entry)) → r ≤ at + 8) ⌝ }
 {
     if is_early(w, clock) {
         return put_plain(out, at, 1, v);
@@ -73,7 +79,8 @@ pub fn put_watchdog(out: &mut [u8], at: usize, w: Watchdog, clock: u32, v: u8) -
 
 // 2. "kind 3 if out of sequence"
 pub fn put_sequence(out: &mut [u8], at: usize, in_sequence: bool, v: u8) -> usize
-    ensures { λ r. ⌜ ((clock : ℕ) → Puts (now (out .entry)) at (flatMap (recordBytes clock) (sequenceRecord «in_sequence» v)) (now (out .exit)) r) ⌝ }
+    ensures { λ r. ⌜ ((clock : ℕ) → Puts (now (out .entry)) at (flatMap (recordBytes clock) (sequenceRecord «in_sequence» v)) (now (out .exit)) r)
+        × (at + 8 ≤ length (now (out .entry)) → r ≤ at + 8) × («in_sequence» ≡ true → r ≡ at) ⌝ }
 {
     if in_sequence {
         return at;

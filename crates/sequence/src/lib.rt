@@ -1,7 +1,7 @@
 // Whether a time-code is taken, and whether it is in sequence.
 ghost use mathlib.Core.Path.{_≡_};
 ghost use mathlib.Core.Option.{Option};
-ghost use Prim.Native.Nat.{ℕ};
+ghost use Prim.Native.Nat.{ℕ, _≤_};
 ghost use Rattle.box_rules.specs.declared.Event.the-variants.{TimeCode};
 ghost use Rattle.plan_view.specs.View.{Timed};
 ghost use Rattle.box_rules.specs.State.{Box};
@@ -22,7 +22,7 @@ pub fn in_sequence(last: u8, byte: u8) -> bool
 
 // Refusals 20, 21 and 29 of a time-code, 0 for none.
 pub fn refuse(numbers: &[u32; 6], byte: u8, room: usize) -> u8
-    ensures { λ r. ⌜ ((b : Box) → Timed (b .plan) (now (numbers .entry)) → (clock : ℕ) → r ≡ refusal room b (TimeCode byte clock)) ⌝ }
+    ensures { λ r. ⌜ ((b : Box) → Timed (b .plan) (now (numbers .entry)) → (clock : ℕ) → r ≡ refusal room b (TimeCode byte clock)) × (r ≡ 0 → 136 ≤ room) ⌝ }
 {
     if !is_loaded(numbers) {
         return 20;

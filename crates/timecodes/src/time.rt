@@ -1,6 +1,7 @@
 // A time-code: the sequence rule, then the records in order, then the five numbers.
 ghost use mathlib.Core.Path.{_≡_};
 ghost use mathlib.Core.List.{[], _∷_, flatMap};
+ghost use Prim.Native.Nat.{_≤_};
 ghost use lib.ListN.{length};
 ghost use Rattle.box_rules.specs.declared.Event.the-variants.{TimeCode};
 ghost use Rattle.lists.specs.Puts.{Puts};
@@ -22,7 +23,8 @@ use visits::visit_all;
 use watchdog::watch::Stepped;
 use watchdog::watch::fed_with;
 
-// The records of an accepted time-code, and run memory after it. Answers where the records end.
+// The records of an accepted time-code, and run memory after it. Answers where the records end. They are at most 17: in sequence one, and two for
+// each of eight initiators; out of it two, and one for each.
 fn run_on(
     rows: &[u8; 8],
     spans: &[u8; 512],
@@ -35,6 +37,7 @@ fn run_on(
     clock: u32,
     records: &mut [u8],
 ) -> usize
+    requires { ⌜ 136 ≤ length (now records) ⌝ }
     ensures { λ r. ⌜ ((b : Box) → Finds b (now (rows .entry)) (now (spans .entry)) (now (aims .entry)) (now (numbers .entry)) (now (run .entry)) (last ∷ []) →
         (now (run .exit) ≡ runOf (thePlan b) (ticked b byte .side))
         × Puts (now (records .entry)) 0 (flatMap (recordBytes clock) (rules-records.records b w byte clock)) (now (records .exit)) r) ⌝ }

@@ -3,7 +3,7 @@ use mathlib.Core.Path.{_≡_, refl, sym, ap, ap₂, _∙_}
 use mathlib.Core.Logic.{_≢_}
 use mathlib.Core.List.{List, [], flatMap}
 use mathlib.Core.Option.{Option, none, some}
-use Prim.Native.Nat.{ℕ, _+_, _≤_, _<_}
+use Prim.Native.Nat.{ℕ, _+_, _*_, _≤_, _<_}
 use native.Mathlib.Omega.{arith}
 use lib.ListN.{length, getD}
 use Rattle.lists.specs.Puts.{Puts}
@@ -45,9 +45,10 @@ abbrev pub VisitSwept : List ℕ → List ℕ → List ℕ → List ℕ → List
 VisitSwept rows spans aims numbers run₀ v before i run after j k =
     (x : Held rows numbers run₀) → spans ≡ spansOf (x .plan) → aims ≡ aimsOf (x .plan) → Swept x (newSide x v) (newRecords x v) before i run after j k
 
--- the same, and the buffer as long as it was
+-- the same, the buffer as long as it was, and at most a record for each
 abbrev pub VisitStands : List ℕ → List ℕ → List ℕ → List ℕ → List ℕ → ℕ → List ℕ → ℕ → List ℕ → List ℕ → ℕ → ℕ → Type 0
-VisitStands rows spans aims numbers run₀ v before i run after j k = (length after ≡ length before) × VisitSwept rows spans aims numbers run₀ v before i run after j k
+VisitStands rows spans aims numbers run₀ v before i run after j k =
+    (length after ≡ length before) × (j ≤ i + 8 * k) × VisitSwept rows spans aims numbers run₀ v before i run after j k
 
 -- the row of an initiator, visited
 abbrev pub VisitAt : List ℕ → ℕ → List ℕ → ℕ → ℕ → ℕ → ℕ → ℕ → List ℕ → List ℕ → ℕ → Type 0
@@ -64,7 +65,7 @@ Targeted aims k v targets = (p : Plan) → Sound p → aims ≡ aimsOf p → tar
 
 module _ (v : ℕ) {rows spans aims numbers run₀ before : List ℕ} {i : ℕ} {run after : List ℕ} {j k : ℕ} (b : VisitStands rows spans aims numbers run₀ v before i run after j k) where
   a : VisitSwept rows spans aims numbers run₀ v before i run after j k
-  a = b .1
+  a = b .2
 
   module _ (count : ℕ) (counted : Counted numbers count) (h : k < count) (span : ℕ) (spanned : Spanned spans k v span) where
     within : (x : Held rows numbers run₀) → k < length (initiators (x .plan))
@@ -99,11 +100,11 @@ module _ (v : ℕ) {rows spans aims numbers run₀ before : List ℕ} {i : ℕ} 
 
     -- what both ways come to
     pub visit-one : span ≢ 0 → (targets : ℕ) → Targeted aims k v targets → (run′ after′ : List ℕ) (j′ : ℕ) → VisitAt run k after j (getD rows k 0) v targets span run′ after′ j′
-        → length after′ ≡ length after → (run″ after″ : List ℕ) (j″ : ℕ) → run″ ≡ run′ → after″ ≡ after′ → j″ ≡ j′ → VisitStands rows spans aims numbers run₀ v before i run″ after″ j″ (k + 1)
-    visit-one d targets targeted run′ after′ j′ told same run″ after″ j″ er eo ej = rw (er, eo, ej) (same ∙ b .0, visit-next d targets targeted run′ after′ j′ told)
+        → length after′ ≡ length after → j′ ≤ j + 8 → (run″ after″ : List ℕ) (j″ : ℕ) → run″ ≡ run′ → after″ ≡ after′ → j″ ≡ j′ → VisitStands rows spans aims numbers run₀ v before i run″ after″ j″ (k + 1)
+    visit-one d targets targeted run′ after′ j′ told same near run″ after″ j″ er eo ej = rw (er, eo, ej) (same ∙ b .0, omega (arith, near, b .1), visit-next d targets targeted run′ after′ j′ told)
 
     pub visit-no-one : span ≡ 0 → (run″ after″ : List ℕ) (j″ : ℕ) → run″ ≡ run → after″ ≡ after → j″ ≡ j → VisitStands rows spans aims numbers run₀ v before i run″ after″ j″ (k + 1)
-    visit-no-one d run″ after″ j″ er eo ej = rw (er, eo, ej) (b .0, visit-skip d)
+    visit-no-one d run″ after″ j″ er eo ej = rw (er, eo, ej) (b .0, omega (arith, b .1), visit-skip d)
 
   pub visit-done : ((x : Held rows numbers run₀) → length (initiators (x .plan)) ≤ k) → (clock size : ℕ) (p : Plan) (side : ℕ → Side) → Sound p → rows ≡ rowsOf p → spans ≡ spansOf p
       → aims ≡ aimsOf p → numbers ≡ numbersWith size p → ((n : ℕ) → FitSide (side n)) → run₀ ≡ runOf p side → (run ≡ runOf p (λ (n : ℕ). sideThen p (entryAt (p .entries) n v) (side n)))

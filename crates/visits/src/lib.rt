@@ -2,7 +2,7 @@
 ghost use mathlib.Core.Path.{_≡_};
 ghost use mathlib.Core.List.{flatMap, _++_};
 ghost use mathlib.Core.Option.{some};
-ghost use Prim.Native.Nat.{ℕ, _<_};
+ghost use Prim.Native.Nat.{ℕ, _+_, _≤_, _<_};
 ghost use lib.ListN.{length};
 ghost use Rattle.lists.specs.Puts.{Puts};
 ghost use Rattle.plan_rules.specs.Plan.{Plan, Entry};
@@ -34,10 +34,10 @@ fn visit_row(
     targets: u64,
     span: u8,
 ) -> usize
-    requires { ⌜ IsRow (now row) ⌝ }
+    requires { ⌜ IsRow (now row) × (at + 8 ≤ length (now out)) ⌝ }
     ensures { λ r. ⌜ ((clock : ℕ) (s : Side) → FitSide s → now (row .entry) ≡ rowOf s → (p : Plan) (e : Entry) → Tells targets span e →
         (now (row .exit) ≡ rowOf (begun s (starting p (some e) s)))
-        × Puts (now (out .entry)) at (flatMap (recordBytes clock) (startRecord initiator v (starting p (some e) s) ++ stillRecord (some e) initiator v (s .live))) (now (out .exit)) r) ⌝ }
+        × Puts (now (out .entry)) at (flatMap (recordBytes clock) (startRecord initiator v (starting p (some e) s) ++ stillRecord (some e) initiator v (s .live))) (now (out .exit)) r) × (r ≤ at + 8) ⌝ }
 {
     if has_live(row) {
         let live = live_word(row);
@@ -62,10 +62,10 @@ fn visit_at(
     targets: u64,
     span: u8,
 ) -> usize
-    requires { ⌜ (length (now run) ≡ 96) × (row < 8) ⌝ }
+    requires { ⌜ (length (now run) ≡ 96) × (row < 8) × (at + 8 ≤ length (now out)) ⌝ }
     ensures { λ r. ⌜ ((clock : ℕ) (s : ℕ → Side) → ((k : ℕ) → FitSide (s k)) → now (run .entry) ≡ rowsWith s → (p : Plan) (e : Entry) → Tells targets span e →
         (now (run .exit) ≡ rowsWith (changed row (begun (s row) (starting p (some e) (s row))) s))
-        × Puts (now (out .entry)) at (flatMap (recordBytes clock) (startRecord initiator v (starting p (some e) (s row)) ++ stillRecord (some e) initiator v ((s row) .live))) (now (out .exit)) r) ⌝ }
+        × Puts (now (out .entry)) at (flatMap (recordBytes clock) (startRecord initiator v (starting p (some e) (s row)) ++ stillRecord (some e) initiator v ((s row) .live))) (now (out .exit)) r) × (r ≤ at + 8) ⌝ }
 {
     visit_row(
         &mut run[row * 12..row * 12 + 12],
@@ -89,6 +89,7 @@ pub fn visit_all(
     at: usize,
     v: u8,
 ) -> usize
+    requires { ⌜ at + 64 ≤ length (now out) ⌝ }
     ensures { λ r. ⌜ ((clock size : ℕ) (p : Plan) (side : ℕ → Side) → Sound p → now (rows .entry) ≡ rowsOf p → now (spans .entry) ≡ spansOf p → now (aims .entry) ≡ aimsOf p →
         now (numbers .entry) ≡ numbersWith size p → ((i : ℕ) → FitSide (side i)) → now (run .entry) ≡ runOf p side →
         (now (run .exit) ≡ runOf p (λ (i : ℕ). begun (side i) (starting p (entryAt (p .entries) i v) (side i))))

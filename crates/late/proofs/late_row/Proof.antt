@@ -1,4 +1,5 @@
 -- `late_row` meets its contract. Assumes nothing.
+use native.Mathlib.Omega.{arith}
 use Rattle.late.proofs.Laws.{late-puts, late-not}
 use borrow.Author.Needs.{needs}
 use Rattle.late.proofs.late_row.Statement.{statement}
@@ -21,9 +22,12 @@ returns c =
     let d = c .before .before .before .before in
     let m = d .before .before .before .age-row in
     let a = d .before .before .before .before .before .before .before .args in
-    λ clock s f is. (
-      m .ensures s f is .1,
-      late-puts clock (a .initiator) (a .v) (a .in-sequence) (m .result) (s .live) (f .live) (m .ensures s f is .0) (d .if1 .taken) (a .out .now) _ (a .at) _ (c .before .before .put-full .ensures clock),
+    let p = c .before .before .put-full .ensures in (
+      λ clock s f is. (
+        m .ensures s f is .1,
+        late-puts clock (a .initiator) (a .v) (a .in-sequence) (m .result) (s .live) (f .live) (m .ensures s f is .0) (d .if1 .taken) (a .out .now) _ (a .at) _ (p .0 clock),
+      ),
+      omega (arith, p .1),
     )
 
 same-length-3 : tie.Need-same-length-3
@@ -32,9 +36,10 @@ same-length-3 c = search needs
 returns-2 : tie.Need-returns-2
 returns-2 c =
     let m = c .before .before .before .age-row in
-    let a = c .before .before .before .before .before .before .before .args in
-    λ clock s f is.
-    (m .ensures s f is .1, late-not clock (a .initiator) (a .v) (a .in-sequence) (m .result) (s .live) (m .ensures s f is .0) (c .if1 .left) (a .out .now) (a .at))
+    let a = c .before .before .before .before .before .before .before .args in (
+      λ clock s f is. (m .ensures s f is .1, late-not clock (a .initiator) (a .v) (a .in-sequence) (m .result) (s .live) (m .ensures s f is .0) (c .if1 .left) (a .out .now) (a .at)),
+      omega arith,
+    )
 
 pub late-row-spec : {M : Type 1} → statement M
 late-row-spec =

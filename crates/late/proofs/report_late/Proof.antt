@@ -1,6 +1,6 @@
--- `report_late` meets its contract. The loop's invariant: the initiators of the rows before this one are done. Assumes nothing.
+-- `report_late` meets its contract. The loop's invariant: the initiators of the rows before this one are done, with at most a record for each. Assumes nothing.
 use mathlib.Core.Path.{_≡_, refl}
-use Prim.Native.Nat.{_≤_, _-_}
+use Prim.Native.Nat.{_+_, _*_, _-_, _≤_}
 use native.Mathlib.Omega.{arith}
 use lib.ListN.{length}
 use Rattle.box_rules.specs.Turn.{aged}
@@ -12,7 +12,7 @@ use Rattle.late.proofs.report_late.Statement.{statement}
 use Rattle.late.proofs.report_late.Tie as tie
 
 abbrev Inv-loop : tie.InvT-loop
-Inv-loop rows numbers run₀ out₀ at v in-sequence count k₀ row₀ run out k row = (row ≤ 8) × (length out ≡ length out₀) × LateSwept rows numbers run₀ v in-sequence out₀ at run out k row
+Inv-loop rows numbers run₀ out₀ at v in-sequence count k₀ row₀ run out k row = (row ≤ 8) × (length out ≡ length out₀) × (k ≤ at + 8 * row) × LateSwept rows numbers run₀ v in-sequence out₀ at run out k row
 
 abbrev μ-loop : tie.MeasureT-loop
 μ-loop rows numbers run₀ out₀ at v in-sequence count k₀ row₀ run out k row = 8 - row
@@ -23,7 +23,7 @@ count-of-requires c κs = search needs
 loop-holds : tie.Need-loop-holds Inv-loop μ-loop
 loop-holds c =
     let a = c .before .before .args in
-    (omega arith, refl, λ x. swept-begin x (λ n. aged (a .in-sequence) (x .side n)) (λ n. lateRecord (a .in-sequence) n (a .v) ((x .side n) .live)) (a .out .now) (a .at))
+    (omega arith, refl, omega arith, λ x. swept-begin x (λ n. aged (a .in-sequence) (x .side n)) (λ n. lateRecord (a .in-sequence) n (a .v) ((x .side n) .live)) (a .out .now) (a .at))
 
 same-length : tie.Need-same-length Inv-loop μ-loop
 same-length c = c .before .before .loop .inv .1
@@ -32,7 +32,7 @@ returns : tie.Need-returns Inv-loop μ-loop
 returns c =
     let l = c .before .before in
     let a = l .before .before .before .args in
-    late-done (a .v) (a .in-sequence) (l .loop .inv .2) (λ x. omega (arith, l .before .count-of .ensures (x .size) (x .plan) (x .sound) (x .numbers)))
+    (late-done (a .v) (a .in-sequence) (l .loop .inv .3) (λ x. omega (arith, l .before .count-of .ensures (x .size) (x .plan) (x .sound) (x .numbers))), search needs)
 
 element-copy-out-late-at : tie.Need-element-copy-out-late-at Inv-loop μ-loop
 element-copy-out-late-at c = search needs
@@ -52,7 +52,7 @@ loop-again c =
     let d = c .before .before .before .before .before .before in
     let l = d .before .before in
     let a = l .before .before .before .args in
-    (omega arith, search needs, late-next (a .v) (a .in-sequence) (l .loop .inv .2) (l .before .count-of .result) (l .before .count-of .ensures) (d .if1 .left) (m .last .0) (m .last .1 .1 .0) (m .result) (m .ensures))
+    (omega arith, search needs, search needs, late-next (a .v) (a .in-sequence) (l .loop .inv .3) (l .before .count-of .result) (l .before .count-of .ensures) (d .if1 .left) (m .last .0) (m .last .1 .1 .0) (m .result) (m .ensures .0))
 
 same-length-2 : tie.Need-same-length-2 Inv-loop μ-loop
 same-length-2 c = c .before .loop .inv .1
@@ -61,7 +61,7 @@ returns-2 : tie.Need-returns-2 Inv-loop μ-loop
 returns-2 c =
     let l = c .before in
     let a = l .before .before .before .args in
-    late-done (a .v) (a .in-sequence) (l .loop .inv .2) (λ x. omega (arith, x .sound .eight))
+    (late-done (a .v) (a .in-sequence) (l .loop .inv .3) (λ x. omega (arith, x .sound .eight)), search needs)
 
 pub report-late-spec : {M : Type 1} → statement M
 report-late-spec =

@@ -1,5 +1,6 @@
 -- `put_full` meets its contract: the word comes apart again, and the record's bytes are those of the new one. Assumes nothing.
 use mathlib.Core.Path.{refl}
+use Rattle.records.specs.Bytes.{bytesOf}
 use Rattle.records.proofs.Laws.{full-puts}
 use borrow.Author.Needs.{needs}
 use Rattle.records.proofs.put_full.Statement.{statement}
@@ -39,12 +40,14 @@ same-length : tie.Need-same-length
 same-length c = search needs
 
 returns : tie.Need-returns
+unfolding bytesOf
 returns c =
     let a = c .before .before .before .before .before .before .args in
     let t = c .before .before .before .before .swapped in
-    λ clock x f is.
-    full-puts clock (a .kind) (a .initiator) (a .v) (a .word) (t .result) _ x f is (search needs) (search needs) (search needs) (t .ensures .0) refl
-    (c .before .before .put-word .ensures)
+    let p = c .before .before .put-word .ensures in (
+      λ clock x f is. full-puts clock (a .kind) (a .initiator) (a .v) (a .word) (t .result) _ x f is (search needs) (search needs) (search needs) (t .ensures .0) refl p,
+      p .next,
+    )
 
 pub put-full-spec : {M : Type 1} → statement M
 put-full-spec =

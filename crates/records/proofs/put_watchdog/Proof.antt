@@ -1,5 +1,6 @@
 -- `put_watchdog` meets its contract. Assumes nothing.
-use Rattle.records.proofs.Laws.{watchdog-early, watchdog-late, watchdog-none}
+use native.Mathlib.Omega.{arith}
+use Rattle.records.proofs.Laws.{plain-next, watchdog-early, watchdog-late, watchdog-none}
 use borrow.Author.Needs.{needs}
 use Rattle.records.proofs.put_watchdog.Statement.{statement}
 use Rattle.records.proofs.put_watchdog.Tie as tie
@@ -17,7 +18,8 @@ returns : tie.Need-returns
 returns c =
     let d = c .before .before .before .before in
     let a = d .before .before .before .args in
-    watchdog-early (a .clock) (a .w) (a .v) (d .before .is-early .result) (d .before .is-early .ensures) (d .if1 .taken) (c .before .before .put-plain .ensures (a .clock))
+    let p = c .before .before .put-plain .ensures (a .clock) in
+    (watchdog-early (a .clock) (a .w) (a .v) (d .before .is-early .result) (d .before .is-early .ensures) (d .if1 .taken) p, plain-next (a .clock) 1 (a .v) p)
 
 is-overdue-requires : tie.Need-is-overdue-requires
 is-overdue-requires c κs = search needs
@@ -33,15 +35,20 @@ returns-2 c =
     let d = c .before .before .before .before in
     let e = d .before .before in
     let a = e .before .before .before .args in
-    watchdog-late (a .clock) (a .w) (a .v) (e .before .is-early .result) (e .before .is-early .ensures) (e .if1 .left) (d .before .is-overdue .result) (d .before .is-overdue .ensures) (d .if2 .taken)
-    (c .before .before .put-plain2 .ensures (a .clock))
+    let p = c .before .before .put-plain2 .ensures (a .clock) in (
+      watchdog-late (a .clock) (a .w) (a .v) (e .before .is-early .result) (e .before .is-early .ensures) (e .if1 .left) (d .before .is-overdue .result) (d .before .is-overdue .ensures) (d .if2 .taken) p,
+      plain-next (a .clock) 2 (a .v) p,
+    )
 
 returns-3 : tie.Need-returns-3
 returns-3 c =
     let e = c .before .before in
     let a = e .before .before .before .args in
+    let p =
     watchdog-none (a .out .now) (a .at) (a .clock) (a .w) (a .v) (e .before .is-early .result) (c .before .is-overdue .result) (e .before .is-early .ensures) (c .before .is-overdue .ensures)
     (e .if1 .left) (c .if2 .left)
+    in
+    (p, λ _. omega arith)
 
 pub put-watchdog-spec : {M : Type 1} → statement M
 put-watchdog-spec =

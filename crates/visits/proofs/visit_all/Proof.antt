@@ -1,4 +1,4 @@
--- `visit_all` meets its contract. The loop's invariant: the initiators of the rows before this one are done. Assumes nothing.
+-- `visit_all` meets its contract. The loop's invariant: the initiators of the rows before this one are done, with at most a record for each. Assumes nothing.
 use mathlib.Core.Path.{refl}
 use mathlib.Core.Logic.{⊎-elim}
 use Prim.Native.Nat.{_+_, _≤_, _-_}
@@ -21,7 +21,7 @@ count-of-requires c κs = search needs
 loop-holds : tie.Need-loop-holds Inv-loop μ-loop
 loop-holds c =
     let a = c .before .before .args in
-    (omega arith, (refl, λ x es ea. swept-begin x (newSide x (a .v)) (newRecords x (a .v)) (a .out .now) (a .at)))
+    (omega arith, (refl, omega arith, λ x es ea. swept-begin x (newSide x (a .v)) (newRecords x (a .v)) (a .out .now) (a .at)))
 
 same-length : tie.Need-same-length Inv-loop μ-loop
 same-length c = c .before .before .loop .inv .1 .0
@@ -59,8 +59,8 @@ loop-again c =
       omega arith,
       ⊎-elim
           {C = VisitStands (a .rows .now) (a .spans .now) (a .aims .now) (a .numbers .now) (a .run .now) (a .v) (a .out .now) (a .at) (c .if2 .run) (c .if2 .out) (c .if2 .k) (l .loop .row + 1)}
-          (λ w. visit-one (a .v) (l .loop .inv .1) (n .result) (n .ensures) (d .if1 .left) (s .result) (s .ensures) (w .0 .taken) (w .4 .result) (w .4 .ensures) (w .5 .last .0) (w .5 .last .1 .1 .0) (w .5 .result) (w .5 .ensures)
-          (w .5 .kept .1 .1 .0) (c .if2 .run) (c .if2 .out) (c .if2 .k) (w .8) (w .9) (w .10))
+          (λ w. visit-one (a .v) (l .loop .inv .1) (n .result) (n .ensures) (d .if1 .left) (s .result) (s .ensures) (w .0 .taken) (w .4 .result) (w .4 .ensures) (w .5 .last .0) (w .5 .last .1 .1 .0) (w .5 .result) (w .5 .ensures .0)
+          (w .5 .kept .1 .1 .0) (w .5 .ensures .1) (c .if2 .run) (c .if2 .out) (c .if2 .k) (w .8) (w .9) (w .10))
           (λ w. visit-no-one (a .v) (l .loop .inv .1) (n .result) (n .ensures) (d .if1 .left) (s .result) (s .ensures) (w .0 .left) (c .if2 .run) (c .if2 .out) (c .if2 .k) (w .1) (w .2) (w .3))
           (c .if2 .came),
     )

@@ -43,10 +43,12 @@ returns c =
     let m = c .before .before .before .before .visit-row in
     let a = c .before .before .before .before .before .before .before .before .before .args in
     let h = c .before .before .before .before .before .before .before .before .before .pre .1 in
-    let size = a .row * 12 + 12 - a .row * 12 in
-    λ clock s fit is p e t.
-    let z = m .ensures clock (s (a .row)) (fit (a .row)) (row-lent s fit (a .run .now) is (a .row) size h (omega arith)) p e t in
-    (row-back s fit (a .run .now) is (a .row) size h (omega arith) (begun (s (a .row)) (starting p (some e) (s (a .row)))) (m .last .0) (z .0), z .1)
+    let size = a .row * 12 + 12 - a .row * 12 in (
+      λ clock s fit is p e t.
+          let z = m .ensures .0 clock (s (a .row)) (fit (a .row)) (row-lent s fit (a .run .now) is (a .row) size h (omega arith)) p e t in
+          (row-back s fit (a .run .now) is (a .row) size h (omega arith) (begun (s (a .row)) (starting p (some e) (s (a .row)))) (m .last .0) (z .0), z .1),
+      m .ensures .1,
+    )
 
 pub visit-at-spec : {M : Type 1} → statement M
 visit-at-spec =

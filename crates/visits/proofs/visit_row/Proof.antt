@@ -1,5 +1,6 @@
 -- `visit_row` meets its contract. Assumes nothing.
 use mathlib.Core.Path.{sym, _∙_}
+use native.Mathlib.Omega.{arith}
 use Rattle.visits.proofs.Laws.{visit-live, visit-start, visit-nothing}
 use borrow.Author.Needs.{needs}
 use Rattle.visits.proofs.visit_row.Statement.{statement}
@@ -25,9 +26,12 @@ returns c =
     let d = c .before .before .before .before in
     let l = d .before .before in
     let a = l .before .before .before .before .before .args in
-    λ clock s f is p e t.
-    visit-live clock (a .initiator) (a .v) p e s f (a .row .now) (d .live-word .result) is (sym (l .before .has-live .ensures s f is) ∙ l .if1 .taken) (d .live-word .ensures s f is)
-    (a .out .now) _ (a .at) _ (c .before .before .put-full .ensures clock)
+    let o = c .before .before .put-full .ensures in (
+      λ clock s f is p e t.
+          visit-live clock (a .initiator) (a .v) p e s f (a .row .now) (d .live-word .result) is (sym (l .before .has-live .ensures s f is) ∙ l .if1 .taken) (d .live-word .ensures s f is)
+          (a .out .now) _ (a .at) _ (o .0 clock),
+      omega (arith, o .1),
+    )
 
 start-row-requires : tie.Need-start-row-requires
 start-row-requires c κs = search needs
@@ -46,9 +50,12 @@ returns-2 c =
     let d = c .before .before .before .before in
     let m = d .before .before .before .start-row in
     let a = d .before .before .before .before .before .before .before .before .before .before .args in
-    λ clock s f is p e t.
-    let z = m .ensures s f is p e t in
-    (z .1, visit-start clock (a .initiator) (a .v) p e s f (m .result) (z .0) (d .if2 .taken) (a .out .now) _ (a .at) _ (c .before .before .put-full2 .ensures clock))
+    let o = c .before .before .put-full2 .ensures in (
+      λ clock s f is p e t.
+          let z = m .ensures s f is p e t in
+          (z .1, visit-start clock (a .initiator) (a .v) p e s f (m .result) (z .0) (d .if2 .taken) (a .out .now) _ (a .at) _ (o .0 clock)),
+      omega (arith, o .1),
+    )
 
 same-length-5 : tie.Need-same-length-5
 same-length-5 c = search needs
@@ -57,10 +64,12 @@ returns-3 : tie.Need-returns-3
 returns-3 c =
     let m = c .before .before .before .start-row in
     let l = c .before .before .before .before .before in
-    let a = l .before .before .before .before .before .args in
-    λ clock s f is p e t.
-    let z = m .ensures s f is p e t in
-    (z .1, visit-nothing clock (a .initiator) (a .v) p e s f (m .result) (z .0) (c .if2 .left) (sym (l .before .has-live .ensures s f is) ∙ l .if1 .left) (a .out .now) (a .at))
+    let a = l .before .before .before .before .before .args in (
+      λ clock s f is p e t.
+          let z = m .ensures s f is p e t in
+          (z .1, visit-nothing clock (a .initiator) (a .v) p e s f (m .result) (z .0) (c .if2 .left) (sym (l .before .has-live .ensures s f is) ∙ l .if1 .left) (a .out .now) (a .at)),
+      omega arith,
+    )
 
 pub visit-row-spec : {M : Type 1} → statement M
 visit-row-spec =

@@ -1,4 +1,5 @@
 -- `run_on` meets its contract: each part of the records behind the one before. Assumes nothing.
+use native.Mathlib.Omega.{arith}
 use lib.ListN.{length}
 use Rattle.plan_rules.specs.Canon.{written}
 use Rattle.box_rules.specs.State.{thePlan}
@@ -20,10 +21,19 @@ put-sequence-requires : tie.Need-put-sequence-requires
 put-sequence-requires c κs = search needs
 
 report-late-requires : tie.Need-report-late-requires
-report-late-requires c κs = search needs
+report-late-requires c κs =
+    let s = c .before .before .before .before in
+    let u = s .before .before .before .before in
+    let w = u .put-watchdog .ensures .1 (omega arith) in
+    let q = s .put-sequence .ensures .1 (omega (arith, w)) in
+    omega (arith, w, q)
 
 visit-all-requires : tie.Need-visit-all-requires
-visit-all-requires c κs = search needs
+visit-all-requires c κs =
+    let r = c .before .before .before .before .before in
+    let s = r .before .before .before .before .before in
+    let w = s .before .before .before .before .put-watchdog .ensures .1 (omega arith) in
+    omega (arith, w, s .put-sequence .ensures .2 (c .before .before .if1 .taken), r .report-late .ensures .1)
 
 same-length : tie.Need-same-length
 same-length c = search needs
@@ -39,12 +49,12 @@ returns c =
     let a = u .before .before .before .before .args in
     λ b f.
     let size = length (written (thePlan b)) in
-    let z = r .report-late .ensures (a .clock) size (thePlan b) (b .side) (f .fit .sound) (rows-held f) (numbers-held f) (f .fit .sides) (f .runs .run) in
+    let z = r .report-late .ensures .0 (a .clock) size (thePlan b) (b .side) (f .fit .sound) (rows-held f) (numbers-held f) (f .fit .sides) (f .runs .run) in
     let y =
     c .before .before .visit-all .ensures (a .clock) size (thePlan b) (λ i. aged (q .result) (b .side i)) (f .fit .sound) (rows-held f) (spans-held f) (aims-held f) (numbers-held f)
     (λ i. aged-fit (q .result) (b .side i) (f .fit .sides i)) (z .0)
     in
-    ran-in b (a .w) (a .byte) (a .clock) (q .result) (q .ensures (b .last) (last-told f)) (u .put-watchdog .ensures) (s .put-sequence .ensures (a .clock)) (z .1) (d .if1 .taken) _ (y .0) _ _ (y .1)
+    ran-in b (a .w) (a .byte) (a .clock) (q .result) (q .ensures (b .last) (last-told f)) (u .put-watchdog .ensures .0) (s .put-sequence .ensures .0 (a .clock)) (z .1) (d .if1 .taken) _ (y .0) _ _ (y .1)
 
 same-length-2 : tie.Need-same-length-2
 same-length-2 c = search needs
@@ -59,8 +69,8 @@ returns-2 c =
     let a = u .before .before .before .before .args in
     λ b f.
     let size = length (written (thePlan b)) in
-    let z = r .report-late .ensures (a .clock) size (thePlan b) (b .side) (f .fit .sound) (rows-held f) (numbers-held f) (f .fit .sides) (f .runs .run) in
-    ran-out b (a .w) (a .byte) (a .clock) (q .result) (q .ensures (b .last) (last-told f)) (u .put-watchdog .ensures) (s .put-sequence .ensures (a .clock)) (z .1) (c .if1 .left) _ (z .0)
+    let z = r .report-late .ensures .0 (a .clock) size (thePlan b) (b .side) (f .fit .sound) (rows-held f) (numbers-held f) (f .fit .sides) (f .runs .run) in
+    ran-out b (a .w) (a .byte) (a .clock) (q .result) (q .ensures (b .last) (last-told f)) (u .put-watchdog .ensures .0) (s .put-sequence .ensures .0 (a .clock)) (z .1) (c .if1 .left) _ (z .0)
 
 pub run-on-spec : {M : Type 1} → statement M
 run-on-spec =

@@ -12,13 +12,13 @@ returns : tie.Need-returns
 returns c =
     let r = c .before .refuse in
     let a = c .before .before .before .args in
-    λ b f. refused f (a .w) (a .byte) (a .clock) (a .records .now) (r .result) (r .ensures b (f .plan .timed) (a .clock)) (c .if1 .taken)
+    λ b f. refused f (a .w) (a .byte) (a .clock) (a .records .now) (r .result) (r .ensures .0 b (f .plan .timed) (a .clock)) (c .if1 .taken)
 
 element-copy-out-run-on : tie.Need-element-copy-out-run-on
 element-copy-out-run-on c = search needs
 
 run-on-requires : tie.Need-run-on-requires
-run-on-requires c κs = search needs
+run-on-requires c κs = let d = c .before .before .before in d .before .refuse .ensures .1 (d .if1 .left)
 
 add-last : tie.Need-add-last
 add-last c = search needs
@@ -42,7 +42,7 @@ returns-2 c =
     let r = d .before .refuse in
     let a = d .before .before .before .args in
     λ b f.
-    accepted f (a .w) (a .byte) (a .clock) (a .records .now) (sym (d .if1 .left) ∙ r .ensures b (f .plan .timed) (a .clock)) _ _ _ _ (m .ensures b (handed f)) (c .fed-with .ensures)
+    accepted f (a .w) (a .byte) (a .clock) (a .records .now) (sym (d .if1 .left) ∙ r .ensures .0 b (f .plan .timed) (a .clock)) _ _ _ _ (m .ensures b (handed f)) (c .fed-with .ensures)
 
 pub time-code-spec : {M : Type 1} → statement M
 time-code-spec =
