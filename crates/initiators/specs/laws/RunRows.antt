@@ -16,7 +16,6 @@ use Rattle.lists.specs.laws.Bools.{none-some, some-some}
 use Rattle.lists.specs.laws.Order.{flat-same}
 use Rattle.lists.specs.laws.At.{place-once}
 use Rattle.lists.specs.laws.Cells.{length-padded}
-use Rattle.lists.specs.laws.Chunks.{length-chunks}
 use Rattle.lists.specs.laws.Blocks.{block-part, inPlace, block-put}
 use Rattle.plan_rules.specs.Plan.{Plan}
 use Rattle.plan_rules.specs.Meaning.{initiators}
@@ -35,10 +34,6 @@ row-length s f =
 module _ (s : ℕ → Side) (fit : (k : ℕ) → FitSide (s k)) where
   wide : (k : ℕ) → length (rowOf (s k)) ≡ 12
   wide k = row-length (s k) (fit k)
-
-  pub run-length : length (rowsWith s) ≡ 96
-  unfolding rowsWith upFrom
-  run-length = length-chunks (λ r. rowOf (s r)) 12 (upFrom 8 0) (λ r m. wide r)
 
   pub run-part : (row : ℕ) → row < 8 → take 12 (drop (row * 12) (rowsWith s)) ≡ rowOf (s row)
   unfolding rowsWith

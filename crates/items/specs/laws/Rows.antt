@@ -1,11 +1,9 @@
 -- Laws of the rows: what the search through the rows tells of an initiator, and what an array in rows has for it.
 use mathlib.Core.Path.{_≡_, refl, sym, ap, _∙_}
-use mathlib.Core.Logic.{by-cases}
 use mathlib.Core.List.{List}
 use mathlib.Core.Option.{some}
 use mathlib.Core.Bool.{Bool, true, false}
 use Prim.Native.Nat.{ℕ, _≤_, _<_, min}
-use native.Mathlib.Decide.{decLt}
 use native.Mathlib.Omega.{arith}
 use lib.ListN.{length}
 use lib.Dec.{eqb}
@@ -71,7 +69,3 @@ module _ (p : Plan) (eight : length (initiators p) ≤ 8) (rows : List ℕ) (hel
           let (k, l, g) = member-at (initiators p) i 0 (in-initiators p i b e) in
           not-both (eq-eqb i (nth rows k) (sym (row-at k (omega arith) ∙ g))) (finds .before k (omega arith) (omega arith))
       go false e = refl
-
-  -- so an initiator has its row below the count
-  pub row-has : i < 64 → isInitiator p i ≡ true → r < count
-  row-has b e = by-cases (decLt r count) (λ h. h) (λ h. not-both e (row-none b (omega arith)))

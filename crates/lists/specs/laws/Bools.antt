@@ -27,10 +27,6 @@ pub either : (a b : Bool) → a || b ≡ true → (a ≡ true) ⊎ (b ≡ true)
 either true b e = inl refl
 either false b e = inr e
 
-pub true-or-false : (a : Bool) → (a ≡ true) ⊎ (a ≡ false)
-true-or-false true = inl refl
-true-or-false false = inr refl
-
 pub not-both : {A : Type 0} {a : Bool} → a ≡ true → a ≡ false → A
 not-both e f = absurd (true≢false (sym e ∙ f))
 

@@ -2,34 +2,22 @@
 -- below n gone through in the same way.
 use mathlib.Core.Path.{_≡_, refl, ap, _∙_}
 use mathlib.Core.List.{List}
-use mathlib.Core.Bool.{Bool, true, false, _||_, or-true}
+use mathlib.Core.Bool.{Bool, true, false, _||_}
 use Prim.Native.Nat.{ℕ, suc, _+_, _-_, _≤_, _<_}
 use native.Mathlib.Numerals.{add-one}
 use native.Mathlib.Omega.{arith}
-use lib.ListN.{length, getD, take, drop, take-append-drop, drop-of-length-le}
+use lib.ListN.{length, getD, take, drop, drop-of-length-le}
 use lib.Seq.{take-suc, drop-cons}
 use lib.Dec.{eqb}
-use Rattle.lists.specs.Search.{any, all, isIn, twice}
+use Rattle.lists.specs.Search.{all, isIn, twice}
 use Rattle.lists.specs.Numbers.{firstFrom}
-use Rattle.lists.specs.laws.Bools.{not-both, eqb-sym}
+use Rattle.lists.specs.laws.Bools.{eqb-sym}
 use Rattle.lists.specs.laws.Search.{any-same}
-use Rattle.lists.specs.laws.Append.{repeats-snoc, repeats-begins}
+use Rattle.lists.specs.laws.Append.{repeats-snoc}
 
 module _ {A : Type 0} (t : A → Bool) (d : A) (s : List A) (k : ℕ) where
   -- the test of the whole list is that of the part from place k on: the element there decides, or the part behind it does; at the
   -- end none is left
-  pub any-hit : k < length s → any t s ≡ any t (drop k s) → t (getD s k d) ≡ true → any t s ≡ true
-  unfolding any
-  any-hit h e g = e ∙ rw (drop-cons s k d h, any, g)
-
-  pub any-on : k < length s → any t s ≡ any t (drop k s) → t (getD s k d) ≡ false → any t s ≡ any t (drop (k + 1) s)
-  unfolding any
-  any-on h e g = e ∙ rw (drop-cons s k d h, any, g, add-one)
-
-  pub any-end : length s ≤ k → any t s ≡ any t (drop k s) → any t s ≡ false
-  unfolding any
-  any-end h e = e ∙ rw (drop-of-length-le s h)
-
   pub all-miss : k < length s → all t s ≡ all t (drop k s) → t (getD s k d) ≡ false → all t s ≡ false
   unfolding all
   all-miss h e g = e ∙ rw (drop-cons s k d h, all, g)
@@ -49,17 +37,6 @@ module _ (s : List ℕ) (k : ℕ) (h : k < length s) where
   twice-next =
       rw (add-one, take-suc s k 0 h) (repeats-snoc eqb (take k s) (getD s k 0)
       ∙ ap (λ (b : Bool). twice (take k s) || b) (any-same _ _ (take k s) (λ x _. eqb-sym x (getD s k 0))))
-
-  -- this one is among those before: it stands twice
-  pub twice-here : isIn (getD s k 0) (take k s) ≡ true → twice s ≡ true
-  unfolding twice
-  twice-here e = go (twice s) refl
-    where
-      go : (b : Bool) → twice s ≡ b → b ≡ true
-      go true g = refl
-      go false g =
-          not-both (twice-next ∙ ap (λ (b : Bool). twice (take k s) || b) e ∙ or-true (twice (take k s)))
-          (repeats-begins eqb (take (k + 1) s) s (drop (k + 1) s, take-append-drop (k + 1) s) g)
 
 module _ (t : ℕ → Bool) (n k : ℕ) where
   -- the search from k on ends at k, where it passes or is n, or goes on behind it

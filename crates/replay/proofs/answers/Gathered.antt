@@ -21,6 +21,3 @@ puts-printed p f = rw (printed-front p) at f
 
 pub flushed-roomy : {d r : Desk} (out : List ℕ) → Flushed d r → Roomy d out r
 flushed-roomy out f = record { count = f .count; watchdog = f .watchdog; passing = f .passing; room = λ h l. omega (arith, f .written h) }
-
-pub kept-roomy : (d : Desk) (out : List ℕ) → d .gathered ≤ length out → 65_600 ≤ length out - d .gathered → Roomy d out d
-kept-roomy d out g h = record { count = refl; watchdog = refl; passing = refl; room = λ _ _. omega arith }
