@@ -3,7 +3,7 @@ use mathlib.Core.Path.{_≡_, refl, sym, ap, _∙_}
 use mathlib.Core.Logic.{by-cases}
 use mathlib.Core.List.{List, [], List·Memᴰ}
 use mathlib.Core.Option.{Option, none, some}
-use mathlib.Core.Bool.{Bool, true, false, _&&_, _||_}
+use mathlib.Core.Bool.{Bool, true, false, _&&_}
 use Prim.Native.Nat.{ℕ, _+_, _≤_, _<_}
 use native.Mathlib.Decide.{decLt}
 use native.Mathlib.Omega.{arith}
@@ -11,7 +11,7 @@ use lib.Dec.{eqb}
 use borrow.Author.Tests.{eqb-true, eq-eqb}
 use Rattle.lists.specs.Search.{any, isIn}
 use Rattle.lists.specs.Place.{atPlace}
-use Rattle.lists.specs.laws.Bools.{neither, not-both, true-both}
+use Rattle.lists.specs.laws.Bools.{not-both, true-both}
 use Rattle.lists.specs.laws.Search.{any-intro, any-none}
 use Rattle.sets.specs.Set.{member}
 use Rattle.sets.specs.Laws.{member-empty}
@@ -22,7 +22,7 @@ use Rattle.plan_rules.specs.laws.Runs.{entry-at, found-at}
 use Rattle.plan_memory.specs.Memory.{ofRow, spanOf, spansOf, aimOf, aimsOf}
 use Rattle.plan_view.specs.View.{Tells}
 use Rattle.box_rules.specs.Refuse.{mayStart}
-use Rattle.asking.specs.Sides.{Tried, Barred, Lacking}
+use Rattle.asking.specs.Sides.{Tried}
 use Rattle.plan_view.specs.laws.Entries.{spanRead, targetsRead, entry-told}
 
 -- what is read at a slot, and the answer for it
@@ -35,9 +35,25 @@ Aimed aims row slot targets = (p : Plan) → Sound p → aims ≡ aimsOf p → t
 abbrev pub Permitted : ℕ → ℕ → ℕ → ℕ → Bool → Type 0
 Permitted targets span t n x = (p : Plan) (e : Entry) → Tells targets span e → x ≡ permits p e t n
 
+-- an entry of the row at this slot does not permit it
+abbrev pub BarredAt : (spans aims : List ℕ) (row t n slot : ℕ) → Type 0
+BarredAt spans aims row t n slot =
+    (p : Plan) (i : ℕ) → Sound p → spans ≡ spansOf p → aims ≡ aimsOf p → atPlace row (initiators p) ≡ some i
+    → (e : Entry) → entryAt (p .entries) i slot ≡ some e → permits p e t n ≡ false
+
+-- none at a slot before this one does
+abbrev pub Barred : (spans aims : List ℕ) (row t n slot : ℕ) → Type 0
+Barred spans aims row t n slot = (v : ℕ) → v < slot → BarredAt spans aims row t n v
+
 module _ (spans aims : List ℕ) (row t n : ℕ) where
   pub slots-begin : Barred spans aims row t n 0
-  slots-begin p i ok es ea at v e h = absurd (omega arith)
+  slots-begin v h = absurd (omega arith)
+
+  slots-past : (slot : ℕ) → Barred spans aims row t n slot → BarredAt spans aims row t n slot → Barred spans aims row t n (slot + 1)
+  slots-past slot before here v h = by-cases (decLt v slot) (λ l. before v l) (λ l. at-slot (omega arith))
+    where
+      at-slot : v ≡ slot → BarredAt spans aims row t n v
+      at-slot z = rw z here
 
   module _ (slot targets span : ℕ) (x : Bool) (spanned : Spanned spans row slot span) (aimed : Aimed aims row slot targets) (told : Permitted targets span t n x) where
     module _ (p : Plan) (i : ℕ) (ok : Sound p) (es : spans ≡ spansOf p) (ea : aims ≡ aimsOf p) (at : atPlace row (initiators p) ≡ some i) where
@@ -56,11 +72,7 @@ module _ (spans aims : List ℕ) (row t n : ℕ) where
           empty u = sym (ap (member u) (aimed p ok ea ∙ here aimOf) ∙ member-empty u)
 
     pub slots-next : Barred spans aims row t n slot → x ≡ false → Barred spans aims row t n (slot + 1)
-    slots-next before no′ p i ok es ea at v e h is =
-        by-cases (decLt v slot) (λ l. before p i ok es ea at v e l is) (λ l. here (omega arith))
-      where
-        here : v ≡ slot → permits p e t n ≡ false
-        here z = sym (some-here p i ok es ea at e (rw (← z) is)) ∙ no′
+    slots-next before no′ = slots-past slot before (λ p i ok es ea at e is. sym (some-here p i ok es ea at e is) ∙ no′)
 
     pub slots-met : x ≡ true → Tried spans aims row t n true
     unfolding mayStart
@@ -72,14 +84,13 @@ module _ (spans aims : List ℕ) (row t n : ℕ) where
             let s = entry-at (p .entries) i slot e h in
             sym (any-intro _ (p .entries) e (s .has) (true-both (eq-eqb i (e .initiator) (sym (s .own))) (sym (some-here p i ok es ea at e h) ∙ yes′)))
 
-  -- slots whose entries lack the target
-  pub slots-lack : (a b : ℕ) → Lacking aims row t a b → Barred spans aims row t n a → Barred spans aims row t n b
+  -- a slot whose entry lacks the target
+  pub slots-lack : (slot targets : ℕ) → Aimed aims row slot targets → member t targets ≡ false → Barred spans aims row t n slot → Barred spans aims row t n (slot + 1)
   unfolding permits
-  slots-lack a b lacking before p i ok es ea at v e h is =
-      by-cases (decLt v a) (λ l. before p i ok es ea at v e l is) (λ l. here (lacking p ok ea v (omega arith) h))
-    where
-      here : member t (targetsRead p row v) ≡ false → permits p e t n ≡ false
-      here z = let told = (entry-told p ok row i at v (spanRead p row v) refl e is (targetsRead p row v) refl) .1 in rw (told .targets t, z)
+  slots-lack slot targets aimed z before =
+      slots-past slot before (λ p i ok es ea at e is.
+      let told = (entry-told p ok row i at slot (spanRead p row slot) refl e is targets (aimed p ok ea)) .1 in
+      rw (told .targets t, z))
 
   pub slots-done : (slot : ℕ) → 64 ≤ slot → Barred spans aims row t n slot → Tried spans aims row t n false
   unfolding mayStart
@@ -88,21 +99,5 @@ module _ (spans aims : List ℕ) (row t n : ℕ) where
       go : (e : Entry) → List·Memᴰ e (p .entries) → (x : Bool) → eqb i (e .initiator) ≡ x → x && permits p e t n ≡ false
       go e m true h =
           let z = eqb-true i (e .initiator) h in
-          before p i ok es ea at (e .slot) e (omega (arith, ok .slots e m)) (rw z (found-at p ok e m))
+          before (e .slot) (omega (arith, ok .slots e m)) p i ok es ea at e (rw z (found-at p ok e m))
       go e m false h = refl
-
--- the targets of the slots from a on, before slot b, are all in a set
-abbrev pub Gathered : (aims : List ℕ) (row t a b all : ℕ) → Type 0
-Gathered aims row t a b all = member t all ≡ false → Lacking aims row t a b
-
-pub gathered-none : (aims : List ℕ) (row t a : ℕ) → Gathered aims row t a a 0
-gathered-none aims row t a z p ok ea v l h = absurd (omega arith)
-
-pub gathered-next : (aims : List ℕ) (row t a b all targets all′ : ℕ) → Aimed aims row b targets → ((k : ℕ) → member k all′ ≡ (member k all || member k targets))
-    → Gathered aims row t a b all → Gathered aims row t a (b + 1) all′
-gathered-next aims row t a b all targets all′ aimed joined before z p ok ea v l h =
-    let both = neither (member t all) (member t targets) (sym (joined t) ∙ z) in
-    by-cases (decLt v b) (λ m. before (both .0) p ok ea v l m) (λ m. here (omega arith) (both .1))
-  where
-    here : v ≡ b → member t targets ≡ false → member t (targetsRead p row v) ≡ false
-    here e f = rw e (ap (member t) (sym (aimed p ok ea)) ∙ f)

@@ -1,8 +1,9 @@
 // A request of an initiator: whether the plan permits it, and its place in the line, refusals 25 and 26.
 ghost use mathlib.Core.Path.{_≡_};
 ghost use mathlib.Core.Bool.{true, false};
+ghost use mathlib.Core.List.{List};
 ghost use mathlib.Core.Option.{some};
-ghost use Prim.Native.Nat.{ℕ, _+_, _≤_, _<_};
+ghost use Prim.Native.Nat.{ℕ, _<_};
 ghost use lib.ListN as lists;
 ghost use Rattle.lists.specs.Place.{atPlace};
 ghost use Rattle.plan_rules.specs.Plan.{Plan};
@@ -14,7 +15,7 @@ ghost use Rattle.box_rules.specs.Refuse.{mayStart};
 ghost use Rattle.box_rules.specs.laws.Fit.{FitSide};
 ghost use Rattle.initiators.specs.Run.{rowOf, changed, rowsWith};
 ghost use Rattle.initiators.specs.Row.{IsRow};
-ghost use Rattle.asking.specs.Sides.{Tried, Barred, Lacking, askedAnswer, askedSide};
+ghost use Rattle.asking.specs.Sides.{Tried, askedAnswer, askedSide};
 use box_rules::Answer;
 use in_line::join_row;
 use initiators::row::waiting;
@@ -24,49 +25,38 @@ use plan_view::entry::targets_at;
 use sets::has;
 use sets::union;
 
-// Whether the target is none of those of the eight entries from slot `first` on.
-fn lacks(aims: &[u64; 512], row: usize, first: u8, target: u8) -> bool
-    requires { ⌜ first ≤ 56 ⌝ }
-    ensures { λ r. ⌜ (r ≡ true → Lacking (now (aims .entry)) row target first (first + 8)) ⌝ }
+// Whether the target is none of those of the row's entries: all 64 sets joined, so that one test tells.
+fn lacks(aims: &[u64; 512], row: usize, target: u8) -> bool
+    ensures { λ r. ⌜ (r ≡ true → (spans : List ℕ) (n : ℕ) → Tried spans (now (aims .entry)) row target n false) ⌝ }
 {
-    let end = first + 8;
     let mut all: u64 = 0;
-    let mut slot = first;
-    while slot < end {
+    let mut slot: u8 = 0;
+    while slot < 64 {
         all = union(all, targets_at(aims, row, slot));
         slot += 1;
     }
     !has(all, target)
 }
 
-// 25, of the eight slots from `first` on, where no entry before them permits it. The first is tried by itself: a target that is permitted
-// often is permitted there; eight that lack the target are passed over at once.
-fn may_start_in(
-    spans: &[u8; 512],
-    aims: &[u64; 512],
-    row: usize,
-    first: u8,
-    target: u8,
-    length: u16,
-) -> bool
-    requires { ⌜ first ≤ 56 ⌝ }
-    ensures { λ r. ⌜ (r ≡ true → Tried (now (spans .entry)) (now (aims .entry)) row target length true)
-        × (r ≡ false → Barred (now (spans .entry)) (now (aims .entry)) row target length first → Barred (now (spans .entry)) (now (aims .entry)) row target length (first + 8)) ⌝ }
+// 25: some entry of the row permits the target with the length. The first is tried by itself: a target that is permitted often is
+// permitted there.
+pub fn may_start(spans: &[u8; 512], aims: &[u64; 512], row: usize, target: u8, length: u16) -> bool
+    ensures { λ r. ⌜ ((p : Plan) (i : ℕ) → Sound p → now (spans .entry) ≡ spansOf p → now (aims .entry) ≡ aimsOf p → atPlace row (initiators p) ≡ some i →
+        r ≡ mayStart p (p .entries) i target length) ⌝ }
 {
     if permits(
-        targets_at(aims, row, first),
-        span_at(spans, row, first),
+        targets_at(aims, row, 0),
+        span_at(spans, row, 0),
         target,
         length,
     ) {
         return true;
     }
-    if lacks(aims, row, first, target) {
+    if lacks(aims, row, target) {
         return false;
     }
-    let end = first + 8;
-    let mut slot = first;
-    while slot < end {
+    let mut slot: u8 = 1;
+    while slot < 64 {
         if permits(
             targets_at(aims, row, slot),
             span_at(spans, row, slot),
@@ -76,21 +66,6 @@ fn may_start_in(
             return true;
         }
         slot += 1;
-    }
-    false
-}
-
-// 25: some entry of the row permits the target with the length.
-pub fn may_start(spans: &[u8; 512], aims: &[u64; 512], row: usize, target: u8, length: u16) -> bool
-    ensures { λ r. ⌜ ((p : Plan) (i : ℕ) → Sound p → now (spans .entry) ≡ spansOf p → now (aims .entry) ≡ aimsOf p → atPlace row (initiators p) ≡ some i →
-        r ≡ mayStart p (p .entries) i target length) ⌝ }
-{
-    let mut first: u8 = 0;
-    while first < 64 {
-        if may_start_in(spans, aims, row, first, target, length) {
-            return true;
-        }
-        first += 8;
     }
     false
 }

@@ -1,24 +1,25 @@
--- `lacks` meets its contract: the set has the targets of the slots passed. Assumes nothing.
-use mathlib.Core.Path.{sym, _∙_}
-use Prim.Native.Nat.{_+_, _-_, _≤_}
+-- `lacks` meets its contract: if the set lacks the target, no entry at a slot passed permits it, with any length. Assumes nothing.
+use mathlib.Core.Path.{_≡_, sym, _∙_}
+use mathlib.Core.Bool.{false}
+use mathlib.Core.List.{List}
+use Prim.Native.Nat.{ℕ, _-_, _≤_}
 use native.Mathlib.Omega.{arith}
 use borrow.Author.Needs.{needs}
 use borrow.Author.Tests.{not-true}
-use Rattle.asking.proofs.Slots.{Gathered, gathered-none, gathered-next}
+use Rattle.lists.specs.laws.Bools.{neither}
+use Rattle.sets.specs.Set.{member}
+use Rattle.asking.proofs.Slots.{Barred, slots-begin, slots-lack, slots-done}
 use Rattle.asking.proofs.lacks.Statement.{statement}
 use Rattle.asking.proofs.lacks.Tie as tie
 
 abbrev Inv-loop : tie.InvT-loop
-Inv-loop aims row first target end all₀ slot₀ all slot = (slot ≤ first + 8) × Gathered aims row target first slot all
+Inv-loop aims row target all₀ slot₀ all slot = (slot ≤ 64) × (member target all ≡ false → (spans : List ℕ) (n : ℕ) → Barred spans aims row target n slot)
 
 abbrev μ-loop : tie.MeasureT-loop
-μ-loop aims row first target end all₀ slot₀ all slot = first + 8 - slot
-
-add-end : tie.Need-add-end Inv-loop μ-loop
-add-end c = search needs
+μ-loop aims row target all₀ slot₀ all slot = 64 - slot
 
 loop-holds : tie.Need-loop-holds Inv-loop μ-loop
-loop-holds c = let a = c .args in (search needs, gathered-none (a .aims .now) (a .row) (a .target) (a .first))
+loop-holds c = let a = c .args in (search needs, λ _ spans n. slots-begin spans (a .aims .now) (a .row) (a .target) n)
 
 targets-at-requires : tie.Need-targets-at-requires Inv-loop μ-loop
 targets-at-requires c κs = search needs
@@ -38,14 +39,19 @@ loop-again c =
     let a = s .before .args in
     let t = c .before .targets-at in (
       search needs,
-      gathered-next (a .aims .now) (a .row) (a .target) (a .first) (s .loop .slot) (s .loop .all) (t .result) (c .union .result) (t .ensures) (c .union .ensures) (s .loop .inv .1),
+      λ z spans n.
+          let both = neither (member (a .target) (s .loop .all)) (member (a .target) (t .result)) (sym (c .union .ensures (a .target)) ∙ z) in
+          slots-lack spans (a .aims .now) (a .row) (a .target) n (s .loop .slot) (t .result) (t .ensures) (both .1) (s .loop .inv .1 (both .0) spans n),
     )
 
 has-requires : tie.Need-has-requires Inv-loop μ-loop
 has-requires c κs = search needs
 
 returns : tie.Need-returns Inv-loop μ-loop
-returns c = let s = c .before .before in λ e p ok ea v l h. s .loop .inv .1 (sym (c .has .ensures) ∙ not-true _ e) p ok ea v l (omega arith)
+returns c =
+    let s = c .before .before in
+    let a = s .before .args in
+    λ e spans n. slots-done spans (a .aims .now) (a .row) (a .target) n (s .loop .slot) (omega arith) (s .loop .inv .1 (sym (c .has .ensures) ∙ not-true _ e) spans n)
 
 pub lacks-spec : {M : Type 1} → statement M
 lacks-spec =
@@ -53,7 +59,6 @@ lacks-spec =
     (tie.spec
     Inv-loop
     μ-loop
-    add-end
     loop-holds
     targets-at-requires
     union-requires

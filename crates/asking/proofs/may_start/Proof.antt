@@ -1,44 +1,113 @@
 -- `may_start` meets its contract: before each turn no entry at an earlier slot permits the transaction. Assumes nothing.
-use mathlib.Core.Path.{_≡_}
-use Prim.Native.Nat.{_-_, _%_, _≤_}
+use Prim.Native.Nat.{_-_, _≤_}
 use native.Mathlib.Omega.{arith}
 use borrow.Author.Needs.{needs}
-use Rattle.asking.specs.Sides.{Barred}
-use Rattle.asking.proofs.Slots.{slots-begin, slots-done}
+use Rattle.asking.proofs.Slots.{Barred, slots-begin, slots-next, slots-met, slots-done}
 use Rattle.asking.proofs.may_start.Statement.{statement}
 use Rattle.asking.proofs.may_start.Tie as tie
 
 abbrev Inv-loop : tie.InvT-loop
-Inv-loop spans aims row target length first₀ first = (first ≤ 64) × (first % 8 ≡ 0) × Barred spans aims row target length first
+Inv-loop spans aims row target length slot₀ slot = (slot ≤ 64) × Barred spans aims row target length slot
 
 abbrev μ-loop : tie.MeasureT-loop
-μ-loop spans aims row target length first₀ first = 64 - first
+μ-loop spans aims row target length slot₀ slot = 64 - slot
 
-loop-holds : tie.Need-loop-holds Inv-loop μ-loop
-loop-holds c = let a = c .args in (search needs, search needs, slots-begin (a .spans .now) (a .aims .now) (a .row) (a .target) (a .length))
+targets-at-requires : tie.Need-targets-at-requires Inv-loop μ-loop
+targets-at-requires c κs = search needs
 
-may-start-in-requires : tie.Need-may-start-in-requires Inv-loop μ-loop
-may-start-in-requires c κs = omega arith
+span-at-requires : tie.Need-span-at-requires Inv-loop μ-loop
+span-at-requires c κs = search needs
+
+permits-requires : tie.Need-permits-requires Inv-loop μ-loop
+permits-requires c κs = search needs
 
 returns : tie.Need-returns Inv-loop μ-loop
-returns c = c .before .may-start-in .ensures .0 (c .if1 .taken)
+returns c =
+    let t = c .before .before .before .targets-at in
+    let n = c .before .before .span-at in
+    let r = c .before .permits in
+    let a = c .before .before .before .before .args in
+    slots-met (a .spans .now) (a .aims .now) (a .row) (a .target) (a .length) 0 (t .result) (n .result) (r .result) (n .ensures) (t .ensures) (r .ensures) (c .if1 .taken)
 
-add-first : tie.Need-add-first Inv-loop μ-loop
-add-first c = search needs
+lacks-requires : tie.Need-lacks-requires Inv-loop μ-loop
+lacks-requires c κs = search needs
+
+returns-2 : tie.Need-returns-2 Inv-loop μ-loop
+returns-2 c =
+    let a = c .before .before .before .before .before .before .args in
+    c .before .lacks .ensures (c .if2 .taken) (a .spans .now) (a .length)
+
+loop-holds : tie.Need-loop-holds Inv-loop μ-loop
+loop-holds c =
+    let d = c .before .before in
+    let t = d .before .before .before .targets-at in
+    let n = d .before .before .span-at in
+    let r = d .before .permits in
+    let a = d .before .before .before .before .args in (
+      search needs,
+      slots-next (a .spans .now) (a .aims .now) (a .row) (a .target) (a .length) 0 (t .result) (n .result) (r .result) (n .ensures) (t .ensures) (r .ensures)
+          (slots-begin (a .spans .now) (a .aims .now) (a .row) (a .target) (a .length)) (d .if1 .left),
+    )
+
+targets-at-requires-2 : tie.Need-targets-at-requires-2 Inv-loop μ-loop
+targets-at-requires-2 c κs = search needs
+
+span-at-requires-2 : tie.Need-span-at-requires-2 Inv-loop μ-loop
+span-at-requires-2 c κs = search needs
+
+permits-requires-2 : tie.Need-permits-requires-2 Inv-loop μ-loop
+permits-requires-2 c κs = search needs
+
+returns-3 : tie.Need-returns-3 Inv-loop μ-loop
+returns-3 c =
+    let t = c .before .before .before .targets-at2 in
+    let n = c .before .before .span-at2 in
+    let r = c .before .permits2 in
+    let s = c .before .before .before .before .before in
+    let a = s .before .before .before .before .before .before .before .args in
+    slots-met (a .spans .now) (a .aims .now) (a .row) (a .target) (a .length) (s .loop .slot) (t .result) (n .result) (r .result) (n .ensures) (t .ensures) (r .ensures) (c .if3 .taken)
+
+add-slot : tie.Need-add-slot Inv-loop μ-loop
+add-slot c = search needs
 
 loop-less : tie.Need-loop-less Inv-loop μ-loop
 loop-less c = search needs
 
 loop-again : tie.Need-loop-again Inv-loop μ-loop
-loop-again c = let s = c .before .before .before in (omega arith, omega arith, c .before .may-start-in .ensures .1 (c .if1 .left) (s .loop .inv .2))
+loop-again c =
+    let t = c .before .before .before .targets-at2 in
+    let n = c .before .before .span-at2 in
+    let r = c .before .permits2 in
+    let s = c .before .before .before .before .before in
+    let a = s .before .before .before .before .before .before .before .args in (
+      search needs,
+      slots-next (a .spans .now) (a .aims .now) (a .row) (a .target) (a .length) (s .loop .slot) (t .result) (n .result) (r .result) (n .ensures) (t .ensures) (r .ensures) (s .loop .inv .1) (c .if3 .left),
+    )
 
-returns-2 : tie.Need-returns-2 Inv-loop μ-loop
-returns-2 c =
+returns-4 : tie.Need-returns-4 Inv-loop μ-loop
+returns-4 c =
     let s = c .before in
-    let a = s .before .args in
-    slots-done (a .spans .now) (a .aims .now) (a .row) (a .target) (a .length) (s .loop .first) (omega arith) (s .loop .inv .2)
+    let a = s .before .before .before .before .before .before .before .args in
+    slots-done (a .spans .now) (a .aims .now) (a .row) (a .target) (a .length) (s .loop .slot) (omega arith) (s .loop .inv .1)
 
 pub may-start-spec : {M : Type 1} → statement M
 may-start-spec =
     tie.close
-    (tie.spec Inv-loop μ-loop loop-holds may-start-in-requires returns add-first loop-less loop-again returns-2)
+    (tie.spec
+    Inv-loop
+    μ-loop
+    targets-at-requires
+    span-at-requires
+    permits-requires
+    returns
+    lacks-requires
+    returns-2
+    loop-holds
+    targets-at-requires-2
+    span-at-requires-2
+    permits-requires-2
+    returns-3
+    add-slot
+    loop-less
+    loop-again
+    returns-4)
