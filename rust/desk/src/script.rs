@@ -44,8 +44,8 @@ pub enum Line {
 pub const FILE: usize = 16_400;
 pub const BUFFER: usize = 4_096;
 pub const ROOM: usize = 32_768;
-/// The most bytes of a line; the longest that can be needed, a `load` of `FILE` bytes, has half as many.
-pub const LINE: usize = 65_536;
+/// The most bytes of a line, as for `replay`; the longest that can be needed, a `load` of `FILE` bytes, has half as many.
+pub const LINE: usize = 65_535;
 
 pub fn line_of(line: &[u8]) -> Line {
     match line.first() {

@@ -73,7 +73,18 @@ fn answers_at_once() {
     assert!(child.wait().unwrap().success());
 }
 
-/// A line of more than 65,536 bytes is no command, and the next line is read as if nothing had been.
+/// The longest line that can be a command, and one byte more.
+#[test]
+fn longest_line() {
+    let reading = |size: usize| format!("clk {}1", "0".repeat(size - 5));
+    assert_eq!(
+        line_of(reading(65_535).as_bytes()),
+        Line::Command(Command::Reading { clock: 1 })
+    );
+    assert_eq!(line_of(reading(65_536).as_bytes()), Line::NoCommand);
+}
+
+/// A line of more than 65,535 bytes is no command, and the next line is read as if nothing had been.
 #[test]
 fn a_very_long_line() {
     let number = "0".repeat(100_000);
