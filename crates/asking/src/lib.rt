@@ -30,10 +30,10 @@ fn lacks(aims: &[u64; 512], row: usize, target: u8) -> bool
     ensures { λ r. ⌜ (r ≡ true → (spans : List ℕ) (n : ℕ) → Tried spans (now (aims .entry)) row target n false) ⌝ }
 {
     let mut all: u64 = 0;
-    let mut slot: u8 = 0;
-    while slot < 64 {
-        all = union(all, targets_at(aims, row, slot));
-        slot += 1;
+    let mut v: u8 = 0;
+    while v < 64 {
+        all = union(all, targets_at(aims, row, v));
+        v += 1;
     }
     !has(all, target)
 }

@@ -13,10 +13,10 @@ use Rattle.asking.proofs.lacks.Statement.{statement}
 use Rattle.asking.proofs.lacks.Tie as tie
 
 abbrev Inv-loop : tie.InvT-loop
-Inv-loop aims row target all₀ slot₀ all slot = (slot ≤ 64) × (member target all ≡ false → (spans : List ℕ) (n : ℕ) → Barred spans aims row target n slot)
+Inv-loop aims row target all₀ v₀ all v = (v ≤ 64) × (member target all ≡ false → (spans : List ℕ) (n : ℕ) → Barred spans aims row target n v)
 
 abbrev μ-loop : tie.MeasureT-loop
-μ-loop aims row target all₀ slot₀ all slot = 64 - slot
+μ-loop aims row target all₀ v₀ all v = 64 - v
 
 loop-holds : tie.Need-loop-holds Inv-loop μ-loop
 loop-holds c = let a = c .args in (search needs, λ _ spans n. slots-begin spans (a .aims .now) (a .row) (a .target) n)
@@ -27,8 +27,8 @@ targets-at-requires c κs = search needs
 union-requires : tie.Need-union-requires Inv-loop μ-loop
 union-requires c κs = search needs
 
-add-slot : tie.Need-add-slot Inv-loop μ-loop
-add-slot c = search needs
+add-v : tie.Need-add-v Inv-loop μ-loop
+add-v c = search needs
 
 loop-less : tie.Need-loop-less Inv-loop μ-loop
 loop-less c = search needs
@@ -41,7 +41,7 @@ loop-again c =
       search needs,
       λ z spans n.
           let both = neither (member (a .target) (s .loop .all)) (member (a .target) (t .result)) (sym (c .union .ensures (a .target)) ∙ z) in
-          slots-lack spans (a .aims .now) (a .row) (a .target) n (s .loop .slot) (t .result) (t .ensures) (both .1) (s .loop .inv .1 (both .0) spans n),
+          slots-lack spans (a .aims .now) (a .row) (a .target) n (s .loop .v) (t .result) (t .ensures) (both .1) (s .loop .inv .1 (both .0) spans n),
     )
 
 has-requires : tie.Need-has-requires Inv-loop μ-loop
@@ -51,7 +51,7 @@ returns : tie.Need-returns Inv-loop μ-loop
 returns c =
     let s = c .before .before in
     let a = s .before .args in
-    λ e spans n. slots-done spans (a .aims .now) (a .row) (a .target) n (s .loop .slot) (omega arith) (s .loop .inv .1 (sym (c .has .ensures) ∙ not-true _ e) spans n)
+    λ e spans n. slots-done spans (a .aims .now) (a .row) (a .target) n (s .loop .v) (omega arith) (s .loop .inv .1 (sym (c .has .ensures) ∙ not-true _ e) spans n)
 
 pub lacks-spec : {M : Type 1} → statement M
 lacks-spec =
@@ -62,7 +62,7 @@ lacks-spec =
     loop-holds
     targets-at-requires
     union-requires
-    add-slot
+    add-v
     loop-less
     loop-again
     has-requires
