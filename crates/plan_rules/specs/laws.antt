@@ -3,6 +3,7 @@ pub mod FieldRows
 pub mod Ranges
 pub mod Lengths
 pub mod Items
+pub mod Kinds
 pub mod InRange
 pub mod Uses
 pub mod Overruns

@@ -1,16 +1,10 @@
 -- The counts of a plan from its memory: the sets have as many members as there are devices and links.
-use mathlib.Core.Path.{_≡_, _∙_}
-use mathlib.Core.Logic.{_⊎_, inl, inr}
-use mathlib.Core.List.{List, List·Memᴰ}
-use mathlib.Core.Bool.{true, _&&_, _||_, or-true}
+use mathlib.Core.Path.{_≡_, sym, _∙_}
+use mathlib.Core.List.{List}
+use mathlib.Core.Bool.{_||_}
 use Prim.Native.Nat.{ℕ}
-use native.Mathlib.Omega.{arith}
-use native.Mathlib.Decide.{ℕ-discrete}
 use lib.ListN.{length}
-use lib.Dec.{eqb}
 use borrow.Author.Tests.{eq-eqb}
-use Rattle.lists.specs.laws.Bools.{both-true, true-both, either, same-test}
-use Rattle.lists.specs.laws.Search.{any-elim, any-intro}
 use Rattle.lists.specs.laws.Counting.{count-same, count-keys}
 use Rattle.sets.specs.Set.{member, sizeOf, packed}
 use Rattle.sets.specs.Packed.{member-packed-below}
@@ -21,46 +15,15 @@ use Rattle.plan_rules.specs.Judge.{counts}
 use Rattle.plan_rules.specs.Good.{sameDeviceNumber, sameLinkNumber}
 use Rattle.plan_rules.specs.laws.Ranges.{device-range, link-range}
 use Rattle.plan_rules.specs.laws.Items.{device-in, link-in}
+use Rattle.plan_rules.specs.laws.Kinds.{node-or-router}
 use Rattle.plan_rules.specs.laws.Fair.{Fair}
 use Rattle.plan_memory.specs.Memory.{setsOf, numbersWith}
 
 module _ (p : Plan) (fair : Fair p) where
-  -- a device is a node or a router
-  pub either-kind : (n : ℕ) → hasKind p 0 n || hasKind p 1 n ≡ isDevice p n
-  unfolding hasKind isDevice
-  either-kind n = same-test (hasKind p 0 n || hasKind p 1 n) (isDevice p n) (λ h. by (either (hasKind p 0 n) (hasKind p 1 n) h)) back
-    where
-      of : (kind : ℕ) → hasKind p kind n ≡ true → isDevice p n ≡ true
-      of kind h =
-          let (d, m, e) = any-elim (λ (d : Device). eqb n (d .num) && eqb kind (d .kind)) (p .devices) h in
-          any-intro (λ (d : Device). eqb n (d .num)) (p .devices) d m ((both-true (eqb n (d .num)) (eqb kind (d .kind)) e) .0)
-
-      by : (hasKind p 0 n ≡ true) ⊎ (hasKind p 1 n ≡ true) → isDevice p n ≡ true
-      by (inl h) = of 0 h
-      by (inr h) = of 1 h
-
-      is : (d : Device) → List·Memᴰ d (p .devices) → eqb n (d .num) ≡ true → (kind : ℕ) → kind ≡ d .kind → hasKind p kind n ≡ true
-      is d m e kind k = any-intro (λ (d : Device). eqb n (d .num) && eqb kind (d .kind)) (p .devices) d m (true-both e (eq-eqb kind (d .kind) k))
-
-      back : isDevice p n ≡ true → hasKind p 0 n || hasKind p 1 n ≡ true
-      back h = go (ℕ-discrete 0 (d .kind))
-        where
-          found : (d : Device) × List·Memᴰ d (p .devices) × (eqb n (d .num) ≡ true)
-          found = any-elim (λ (d : Device). eqb n (d .num)) (p .devices) h
-
-          d : Device
-          d = found .0
-
-          go : Dec (0 ≡ d .kind) → hasKind p 0 n || hasKind p 1 n ≡ true
-          go (yes k) = rw (is d (found .1) (found .2) 0 k)
-          go (no k) =
-              let r = device-range d (fair .ranges (device d) (device-in p d (found .1))) in
-              rw (is d (found .1) (found .2) 1 (omega (arith, r .kind))) (or-true (hasKind p 0 n))
-
   pub size-devices : (u : ℕ) → ((k : ℕ) → member k u ≡ member k (packed (hasKind p 0)) || member k (packed (hasKind p 1))) → sizeOf u ≡ length (p .devices)
   unfolding sizeOf isDevice sameDeviceNumber
   size-devices u h =
-      count-same 64 _ (isDevice p) (λ k l. h k ∙ rw (member-packed-below k (hasKind p 0) l, member-packed-below k (hasKind p 1) l) (either-kind k))
+      count-same 64 _ (isDevice p) (λ k l. h k ∙ rw (member-packed-below k (hasKind p 0) l, member-packed-below k (hasKind p 1) l) (sym (node-or-router p (fair .ranges) k)))
       ∙ count-keys sameDeviceNumber (λ (d : Device). d .num) 64 (p .devices) (λ c d e. eq-eqb (c .num) (d .num) e)
       (λ d m. (device-range d (fair .ranges (device d) (device-in p d m))) .num) (fair .lists .devices)
 
