@@ -16,6 +16,7 @@ pub mod Fair
 pub mod Tags
 pub mod Fields
 pub mod Reading
+pub mod Faults
 pub mod Whole
 pub mod Accepted
 pub mod Ordered

@@ -4,23 +4,22 @@ use mathlib.Core.Logic.{_≢_}
 use mathlib.Core.List.{List, [], _∷_}
 use mathlib.Core.Option.{Option, none, some}
 use mathlib.Core.Bool.{Bool, true, false, _&&_}
-use Prim.Native.Nat.{ℕ, zero, suc, _≤_}
+use Prim.Native.Nat.{ℕ, suc, _≤_}
 use native.Mathlib.Omega.{arith}
 use lib.ListN.{length}
-use lib.Dec.{ltb, leb, eqb}
-use borrow.Author.Tests.{ltb-false, le-ltb, eqb-false}
+use lib.Dec.{ltb}
+use borrow.Author.Tests.{ltb-false, le-ltb}
 use Rattle.lists.specs.Search.{firstSome, least}
 use Rattle.lists.specs.laws.Bools.{none-some, some-some, when-some}
 use Rattle.lists.specs.laws.Search.{least-first}
 use Rattle.plan_rules.specs.declared.Verdict.{Verdict}
 use Rattle.plan_rules.specs.declared.Verdict.the-variants.{Faulty, Overrun, Clash}
 use Rattle.plan_rules.specs.Plan.{Entry, Timing, Plan, blank}
-use Rattle.plan_rules.specs.Fields.{tagAt, nextAt}
 use Rattle.plan_rules.specs.Verdict.{number}
 use Rattle.plan_rules.specs.Meaning.{isAtWork}
-use Rattle.plan_rules.specs.Judge.{fieldFault, withField, Reading, plan, fault, readFrom, readFile, noTiming, overrun, overrunOf, overrunAt, clash, clashIn, clashOf, clashWith, clashOn, counts, wholePlan, judge}
+use Rattle.plan_rules.specs.Judge.{Reading, plan, fault, readFile, noTiming, overrun, overrunOf, overrunAt, clash, clashIn, clashOf, clashWith, clashOn, counts, wholePlan, judge}
 use Rattle.plan_rules.specs.Canon.{given}
-use Rattle.plan_rules.specs.laws.Reading.{not-plan}
+use Rattle.plan_rules.specs.laws.Faults.{read-fault}
 
 -- a file that gives the plan p and no verdict from 1 to 14
 pub record Clean (s : List ℕ) (p : Plan) : Type 0 where
@@ -71,21 +70,6 @@ unfolding firstSome
 first-none none os d n f h = (refl, h)
 first-none (some v) os d n f h = absurd (omega (arith, f v refl))
 
--- a fault has a number
-fault-number : (k : ℕ) (s : List ℕ) (at before : ℕ) (p : Plan) (n off : ℕ) → readFrom k s at before p ≡ fault n off → n ≢ 0
-unfolding readFrom
-fault-number zero s at before p n off h = not-plan (sym h)
-fault-number (suc k) s at before p n off h = go (fault-number k s (nextAt s at) (tagAt s at) (withField p s at) n off) (leb (length s) at) refl (eqb (fieldFault p s at before) 0) refl
-  where
-    go : (readFrom k s (nextAt s at) (tagAt s at) (withField p s at) ≡ fault n off → n ≢ 0)
-        → (x : Bool) → leb (length s) at ≡ x → (y : Bool) → eqb (fieldFault p s at before) 0 ≡ y → n ≢ 0
-    go ih true e y f = not-plan (sym (rw (e, readFrom) at h))
-    go ih false e true f = ih (rw (e, f, readFrom) at h)
-    go ih false e false f =
-        let g : fault (fieldFault p s at before) at ≡ fault n off = rw (e, f, readFrom) at h in
-        let same : fieldFault p s at before ≡ n = cc in
-        λ z. eqb-false (fieldFault p s at before) 0 f (same ∙ z)
-
 clean-whole : (s : List ℕ) (p : Plan) → length s ≤ 16_384 → readFile s ≡ plan p → number (wholePlan s p) ≡ 0 → Clean s p
 unfolding wholePlan
 clean-whole s p l r h =
@@ -105,7 +89,7 @@ accepted-clean s h = go (ltb 16_384 (length s)) refl (readFile s) refl
   where
     go : (x : Bool) → ltb 16_384 (length s) ≡ x → (r : Reading) → readFile s ≡ r → Clean s (given s)
     go true e r f = let z : _≡_ {A = ℕ} 1 0 = rw (e, judge) at h in absurd (omega arith)
-    go false e (fault n at) f = absurd (fault-number (length s) s 0 0 blank n at f (rw (e, f, judge) at h))
+    go false e (fault n at) f = let z : n ≡ 0 = rw (e, f, judge) at h in absurd (omega (arith, (read-fault (length s) s 0 0 blank n at f) .0))
     go false e (plan p) f = rw (given-plan s p f) (clean-whole s p (ltb-false 16_384 (length s) e) f (rw (e, f, judge) at h))
 
 -- a clean file is accepted, with the counts of its plan
