@@ -1,21 +1,23 @@
 -- The bytes that writing out puts for a path and an entry, as the code finds them in plan memory.
 use Prim.Native.Nat.{ℕ, _+_, _*_, _/_, _%_}
-use mathlib.Core.List.{List, [], flatMap}
-use mathlib.Core.Bool.{cond}
-use lib.ListN.{take, drop}
-use lib.Dec.{eqb}
+use mathlib.Core.List.{List, [], map, flatMap}
+use mathlib.Core.Bool.{_||_, cond}
+use lib.Dec.{ltb, eqb}
 use Rattle.lists.specs.Search.{keep, upFrom, below64}
 use Rattle.sets.specs.Set.{members}
 use Rattle.plan_rules.specs.Plan.{nth}
 use Rattle.plan_rules.specs.Fields.{fieldFor}
 use Rattle.plan_memory.specs.Take.{pathItem, entryItem}
 
--- of the path in row n: a path has a link
-unfoldable pub pathLinks : List ℕ → ℕ → List ℕ
-pathLinks paths n = take (nth paths (11 * n + 2)) (drop (11 * n + 3) paths)
+-- the links from a place of memory on, so many of them
+unfoldable pub linksFrom : List ℕ → ℕ → ℕ → List ℕ
+linksFrom paths start count = map (nth paths) (upFrom count start)
 
+-- of the path in row n: a row has one to eight links, or is unused
 unfoldable pub pathBytes : List ℕ → ℕ → List ℕ
-pathBytes paths n = cond (eqb (nth paths (11 * n + 2)) 0) [] (fieldFor (pathItem (nth paths (11 * n)) (nth paths (11 * n + 1)) (pathLinks paths n)))
+pathBytes paths n =
+    let count = nth paths (11 * n + 2) in
+    cond (ltb 8 count || eqb count 0) [] (fieldFor (pathItem (nth paths (11 * n)) (nth paths (11 * n + 1)) (linksFrom paths (11 * n + 3) count)))
 
 -- the members of a set, rising
 unfoldable pub rises : ℕ → List ℕ

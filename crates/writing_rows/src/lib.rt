@@ -9,16 +9,30 @@ ghost use Rattle.lists.specs.Search.{upFrom};
 ghost use Rattle.lists.specs.Stores.{Put};
 ghost use Rattle.lists.specs.Puts.{Puts};
 ghost use Rattle.plan_rules.specs.Plan.{nth};
-ghost use Rattle.writing_rows.specs.Out.{pathBytes, rises, entryBytes, eightBytes};
-use line::print::put;
+ghost use Rattle.writing_rows.specs.Out.{linksFrom, pathBytes, rises, entryBytes, eightBytes};
 use line::print::put_bytes;
-use reader::field::part;
 use reader::field::wide;
 use sets::least;
 use sets::size;
 use sets::without_least;
 
-// The path of row n, where it has a link.
+// The links from a place of memory on, count of them. The loop says too that they are at most eight: the compiler then makes no loop for long copies.
+fn put_links(out: &mut [u8], at: usize, paths: &[u8; 1408], start: usize, count: usize) -> usize
+    requires { ⌜ (count ≤ 8) × (start + count ≤ 1408) × (at + count ≤ length (now out)) ⌝ }
+    ensures { λ r. ⌜ Put (now (out .entry)) at (linksFrom (now (paths .entry)) start count) (now (out .exit)) r ⌝ }
+{
+    let mut i = 0;
+    while i < 8 {
+        if count <= i {
+            return at + i;
+        }
+        out[at + i] = paths[start + i];
+        i += 1;
+    }
+    at + i
+}
+
+// The path of row n, where it has one to eight links: in no row of a plan are there more.
 fn put_path(out: &mut [u8], at: usize, paths: &[u8; 1408], n: usize) -> usize
     requires { ⌜ n < 128 ⌝ }
     ensures { λ r. ⌜ Puts (now (out .entry)) at (pathBytes (now (paths .entry)) n) (now (out .exit)) r ⌝ }
@@ -28,13 +42,23 @@ fn put_path(out: &mut [u8], at: usize, paths: &[u8; 1408], n: usize) -> usize
     if count == 0 {
         return at;
     }
-    let links = part(paths, row + 3, count);
-    let size = 2 + links.len() as u16;
+    if 8 < count {
+        return at;
+    }
+    let whole = 5 + count;
+    let room = out.len();
+    if room < whole {
+        return at;
+    }
+    if room - whole < at {
+        return at;
+    }
+    // At most ten bytes: their number has no high byte.
     let initiator = paths[row];
     let target = paths[row + 1];
-    let start = [3, (size / 256) as u8, (size % 256) as u8, initiator, target];
-    let k = put(out, at, &start);
-    put(out, k, links)
+    let start = [3, 0, 2 + count as u8, initiator, target];
+    let k = put_bytes(out, at, &start);
+    put_links(out, k, paths, row + 3, count)
 }
 
 // The paths of the first rows, row by row.

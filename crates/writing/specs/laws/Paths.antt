@@ -3,9 +3,9 @@ use mathlib.Core.Path.{_≡_, refl, sym, ap, ap₂, _∙_}
 use mathlib.Core.List.{List, [], _∷_, _++_, map, flatMap, append-assoc, List·Memᴰ, List·Memᴰ·head, List·Memᴰ·tail}
 use Prim.Native.Nat.{ℕ, zero, suc, _+_, _-_, _*_, _≤_, min}
 use native.Mathlib.Omega.{arith}
-use lib.ListN.{length, take, drop, replicate}
-use lib.Seq.{getD-drop, drop-drop, take-at, drop-at}
-use borrow.Author.Tests.{eq-eqb, ne-eqb}
+use lib.ListN.{length, drop, replicate}
+use lib.Seq.{getD-drop, drop-drop, drop-at}
+use borrow.Author.Tests.{le-ltb, ne-eqb}
 use Rattle.lists.specs.Search.{upFrom}
 use Rattle.lists.specs.Cells.{padded}
 use Rattle.lists.specs.laws.Search.{upFrom-range}
@@ -13,13 +13,13 @@ use Rattle.lists.specs.laws.Cells.{length-padded}
 use Rattle.lists.specs.laws.Filled.{filling}
 use Rattle.lists.specs.laws.Flat.{flat-map, flat-none}
 use Rattle.plan_rules.specs.Plan.{nth, Route, Plan, path}
-use Rattle.plan_rules.specs.Fields.{tagFor, contentFor, fieldFor}
+use Rattle.plan_rules.specs.Fields.{fieldFor}
 use Rattle.plan_rules.specs.Canon.{canonical}
 use Rattle.plan_rules.specs.Good.{Good}
 use Rattle.plan_rules.specs.laws.Items.{path-in}
 use Rattle.plan_rules.specs.laws.Lengths.{path-length}
 use Rattle.plan_memory.specs.Memory.{pathRow, pathsInOrder, pathsOf}
-use Rattle.writing_rows.specs.Out.{pathLinks, pathBytes}
+use Rattle.writing_rows.specs.Out.{linksFrom, pathBytes}
 
 -- the field of a path
 unfoldable pathField : Route → List ℕ
@@ -34,21 +34,31 @@ unfolding pathRow
 row-length x h = omega (arith, length-padded 8 0 (x .links) (h .1))
 
 module _ (m : List ℕ) where
+  -- links that stand at a place of memory are read from there
+  read-links : (links rest : List ℕ) (start : ℕ) → drop start m ≡ links ++ rest → linksFrom m start (length links) ≡ links
+  unfolding linksFrom upFrom
+  read-links [] rest start e = refl
+  read-links (x ∷ links) rest start e =
+      let z : start + 0 ≡ start = omega arith in
+      let s : start + 1 ≡ suc start = omega arith in
+      ap₂ (λ y ys. y ∷ ys) (ap (nth m) (sym z) ∙ sym (getD-drop start m 0 0) ∙ ap (λ (l : List ℕ). nth l 0) e)
+      (read-links links rest (suc start) (ap (λ j. drop j m) (sym s) ∙ sym (drop-drop 1 start m) ∙ ap (drop 1) e))
+
   -- row n begins with the row of a path
   one-row : (n : ℕ) (x : Route) (rest : List ℕ) → Walkable x → drop (11 * n) m ≡ pathRow x ++ rest → pathBytes m n ≡ pathField x
-  unfolding pathBytes pathLinks pathField fieldFor tagFor contentFor pathRow padded
+  unfolding pathBytes pathField pathRow padded
   one-row n x rest h e =
       let at : (k : ℕ) → nth m (11 * n + k) ≡ nth (pathRow x ++ rest) k = λ k. sym (getD-drop (11 * n) m k 0) ∙ ap (λ (l : List ℕ). nth l k) e in
       let z : 11 * n ≡ 11 * n + 0 = omega arith in
-      let links : take (length (x .links)) (drop (11 * n + 3) m) ≡ x .links =
-      ap (take (length (x .links))) (sym (drop-drop 3 (11 * n) m) ∙ ap (drop 3) e ∙ append-assoc (x .links) (replicate (8 - length (x .links)) 0) rest)
-      ∙ take-at (x .links) (replicate (8 - length (x .links)) 0 ++ rest) (length (x .links)) refl in
-      rw (at 2, ne-eqb (length (x .links)) 0 (λ q. omega (arith, h .0)), at 1, links, ap (nth m) z ∙ at 0)
+      let count = length (x .links) in
+      let fill : List ℕ = replicate (8 - count) 0 in
+      let links : linksFrom m (11 * n + 3) count ≡ x .links = read-links (x .links) (fill ++ rest) (11 * n + 3) (sym (drop-drop 3 (11 * n) m) ∙ ap (drop 3) e ∙ append-assoc (x .links) fill rest) in
+      rw (at 2, le-ltb 8 count (h .1), ne-eqb count 0 (λ q. omega (arith, h .0)), at 1, links, ap (nth m) z ∙ at 0)
 
   -- no path from row n on
   no-rows : (n k z : ℕ) → drop (11 * n) m ≡ replicate z 0 → flatMap (pathBytes m) (upFrom k n) ≡ []
   unfolding pathBytes
-  no-rows n k z e = flat-none (pathBytes m) (upFrom k n) (λ j i. rw (eq-eqb (nth m (11 * j + 2)) 0 (empty j ((upFrom-range k n j i) .0))))
+  no-rows n k z e = flat-none (pathBytes m) (upFrom k n) (λ j i. rw (empty j ((upFrom-range k n j i) .0)))
     where
       empty : (j : ℕ) → n ≤ j → nth m (11 * j + 2) ≡ 0
       empty j h =

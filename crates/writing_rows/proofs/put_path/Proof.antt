@@ -1,10 +1,7 @@
--- `writing_rows::put_path` meets its contract. The links are those of the row, at most 255 of them. Assumes nothing.
-use mathlib.Core.Path.{ap, _∙_, sym}
-use Prim.Native.Nat.{ℕ, _+_, _*_}
+-- `writing_rows::put_path` meets its contract. A row of more than eight links is no path. Assumes nothing.
+use mathlib.Core.Path.{sym, _∙_}
 use native.Mathlib.Omega.{arith}
-use lib.ListN.{length, take, drop, length-take}
-use Rattle.writing_rows.proofs.Parts.{no-path, path-puts}
-use Rattle.writing_rows.specs.Out.{pathLinks}
+use Rattle.writing_rows.proofs.Parts.{no-path, no-row, path-over, path-puts}
 use borrow.Author.Needs.{needs}
 use Rattle.writing_rows.proofs.put_path.Statement.{statement}
 use Rattle.writing_rows.proofs.put_path.Tie as tie
@@ -22,23 +19,30 @@ wide-requires : tie.Need-wide-requires
 wide-requires c κs = search needs
 
 returns : tie.Need-returns
-returns c = let a = c .before .before .before .before .args in no-path (a .out .now) (a .at) (a .paths .now) (a .n) (sym (c .before .wide .ensures .0) ∙ c .if1 .taken)
+returns c = let a = c .before .before .before .before .args in no-path (a .paths .now) (a .n) (a .out .now) (a .at) (sym (c .before .wide .ensures .0) ∙ c .if1 .taken)
 
-add-part : tie.Need-add-part
-add-part c = search needs
+returns-2 : tie.Need-returns-2
+returns-2 c =
+    let w = c .before .before in
+    let a = w .before .before .before .args in
+    no-row (a .paths .now) (a .n) (a .out .now) (a .at) (omega (arith, w .wide .ensures .0))
 
-part-requires : tie.Need-part-requires
-part-requires c κs = search needs
+add-whole : tie.Need-add-whole
+add-whole c = search needs
 
-cast-size : tie.Need-cast-size
-cast-size c =
-    let a = c .before .before .before .before .before .before .args in
-    omega (arith, ap length (c .part .ensures), length-take (c .before .before .before .wide .result) (drop (11 * a .n + 3) (a .paths .now)))
+returns-3 : tie.Need-returns-3
+returns-3 c =
+    let s = c .before in
+    let w = s .before .before in
+    let a = w .before .before .before .args in
+    path-over (a .paths .now) (a .n) (w .wide .ensures .0) (s .before .if1 .left) (s .if2 .left) (search needs)
 
-add-size : tie.Need-add-size
-add-size c =
-    let a = c .before .before .before .before .before .before .args in
-    omega (arith, ap length (c .part .ensures), length-take (c .before .before .before .wide .result) (drop (11 * a .n + 3) (a .paths .now)))
+returns-4 : tie.Need-returns-4
+returns-4 c =
+    let s = c .before .before in
+    let w = s .before .before in
+    let a = w .before .before .before .args in
+    path-over (a .paths .now) (a .n) (w .wide .ensures .0) (s .before .if1 .left) (s .if2 .left) (search needs)
 
 element-copy-out-initiator : tie.Need-element-copy-out-initiator
 element-copy-out-initiator c = search needs
@@ -50,36 +54,34 @@ element-copy-out-target : tie.Need-element-copy-out-target
 element-copy-out-target c = search needs
 
 cast-t16 : tie.Need-cast-t16
-cast-t16 c =
-    let p = c .before .before in
-    let a = p .before .before .before .before .before .before .args in
-    omega (arith, ap length (p .part .ensures), length-take (p .before .before .before .wide .result) (drop (11 * a .n + 3) (a .paths .now)))
+cast-t16 c = search needs
 
-cast-t26 : tie.Need-cast-t26
-cast-t26 c = search needs
+add-t22 : tie.Need-add-t22
+add-t22 c = search needs
 
-slice-aggregate-put : tie.Need-slice-aggregate-put
-slice-aggregate-put c = search needs
+slice-aggregate-put-bytes : tie.Need-slice-aggregate-put-bytes
+slice-aggregate-put-bytes c = search needs
 
-put-requires : tie.Need-put-requires
-put-requires c κs = search needs
+put-bytes-requires : tie.Need-put-bytes-requires
+put-bytes-requires c κs = search needs
 
-put-requires-2 : tie.Need-put-requires-2
-put-requires-2 c κs = search needs
+add-put-links : tie.Need-add-put-links
+add-put-links c = search needs
+
+put-links-requires : tie.Need-put-links-requires
+put-links-requires c κs = search needs
 
 same-length : tie.Need-same-length
 same-length c = search needs
 
-returns-2 : tie.Need-returns-2
-unfolding pathLinks
-returns-2 c =
-    let s = c .before .before .before .before .before .before in
-    let p = s .before .before .before .before .before in
-    let w = p .before .before .before in
+returns-5 : tie.Need-returns-5
+returns-5 c =
+    let k = c .before .before in
+    let p = k .before .before .before .before in
+    let s = p .before .before .before .before .before .before .before in
+    let w = s .before .before in
     let a = w .before .before .before .args in
-    let row = drop (11 * a .n + 3) (a .paths .now) in
-    path-puts (a .paths .now) (a .n) (λ e. p .before .before .if1 .left (w .wide .ensures .0 ∙ e)) (p .part .ensures ∙ ap (λ (k : ℕ). take k row) (w .wide .ensures .0))
-    (s .put .ensures) (c .before .before .put2 .ensures)
+    path-puts (a .paths .now) (a .n) (w .wide .ensures .0) (s .before .if1 .left) (s .if2 .left) (p .put-bytes .ensures) (k .put-links .ensures)
 
 pub put-path-spec : {M : Type 1} → statement M
 put-path-spec =
@@ -90,17 +92,18 @@ put-path-spec =
     element-copy-out-wide
     wide-requires
     returns
-    add-part
-    part-requires
-    cast-size
-    add-size
+    returns-2
+    add-whole
+    returns-3
+    returns-4
     element-copy-out-initiator
     add-target
     element-copy-out-target
     cast-t16
-    cast-t26
-    slice-aggregate-put
-    put-requires
-    put-requires-2
+    add-t22
+    slice-aggregate-put-bytes
+    put-bytes-requires
+    add-put-links
+    put-links-requires
     same-length
-    returns-2)
+    returns-5)
