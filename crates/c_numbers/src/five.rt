@@ -39,12 +39,19 @@ fn is_listed(five: &[u32], w: Watchdog) -> bool
     five[4] == w.greatest
 }
 
-// The five numbers of a watchdog. Where none changes nothing is stored: the next event need not wait for a store.
+// The five numbers of a watchdog. What stands there is not read: a clear and a load may be lent memory that nothing was stored to.
 pub fn put_watchdog(five: &mut [u32; 5], w: Watchdog)
+    ensures { λ _. ⌜ now (five .exit) ≡ listedFive w ⌝ }
+{
+    *five = [w.last, w.seen, w.reported, w.least, w.greatest];
+}
+
+// The same over the five numbers of an event. Where none changes nothing is stored: the next event need not wait for a store.
+pub fn put_changed(five: &mut [u32; 5], w: Watchdog)
     ensures { λ _. ⌜ now (five .exit) ≡ listedFive w ⌝ }
 {
     if is_listed(five, w) {
         return;
     }
-    *five = [w.last, w.seen, w.reported, w.least, w.greatest];
+    put_watchdog(five, w);
 }

@@ -1,6 +1,6 @@
 // The four events, as C calls them. "A refusal leaves state, buffers and watchdog numbers untouched and answers its number, all else 0."
 ghost use Rattle.spwd_c.specs.Exports.{TimeCodes, Requests, Replies, Readings};
-use c_numbers::five::put_watchdog;
+use c_numbers::five::put_changed;
 use c_numbers::five::watchdog_of;
 use events::reading::reading;
 use events::values::values_of;
@@ -38,7 +38,7 @@ pub extern "C" fn spwd_c_time_code(
         clock,
         records,
     );
-    put_watchdog(five, done.watchdog);
+    put_changed(five, done.watchdog);
     let answered = done.answer;
     *answer = values_of(answered);
 }
@@ -97,7 +97,7 @@ pub extern "C" fn spwd_c_reading(
 {
     let w = watchdog_of(five);
     let told = reading(numbers, w, clock);
-    put_watchdog(five, told.watchdog);
+    put_changed(five, told.watchdog);
     let answered = told.answer;
     *answer = values_of(answered);
 }

@@ -10,8 +10,8 @@ watchdog-of-requires c κs = search needs
 reading-requires : tie.Need-reading-requires
 reading-requires c κs = search needs
 
-put-watchdog-requires : tie.Need-put-watchdog-requires
-put-watchdog-requires c κs = search needs
+put-changed-requires : tie.Need-put-changed-requires
+put-changed-requires c κs = search needs
 
 values-of-requires : tie.Need-values-of-requires
 values-of-requires c κs = search needs
@@ -19,7 +19,7 @@ values-of-requires c κs = search needs
 returns : tie.Need-returns
 returns c =
     let s = c .before .before .before in
-    readings (s .reading .result .answer) (c .values-of .ensures) _ (s .reading .result .watchdog) (s .before .watchdog-of .ensures) (c .before .put-watchdog .ensures) (s .reading .ensures)
+    readings (s .reading .result .answer) (c .values-of .ensures) _ (s .reading .result .watchdog) (s .before .watchdog-of .ensures) (c .before .put-changed .ensures) (s .reading .ensures)
 
 pub spwd-c-reading-spec : {M : Type 1} → statement M
 spwd-c-reading-spec =
@@ -27,6 +27,6 @@ spwd-c-reading-spec =
     (tie.spec
     watchdog-of-requires
     reading-requires
-    put-watchdog-requires
+    put-changed-requires
     values-of-requires
     returns)
