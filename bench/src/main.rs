@@ -30,7 +30,12 @@ fn main() {
         let name = format!("load a maximal plan up to its {part}");
         load(&name, &large::only(&Vec::from_iter(tags), &maximal));
     }
-    load("load a full file", &large::full());
+    let full = large::full();
+    load("load a full file", &full);
+    load(
+        "load a full file up to its entries",
+        &large::only(&[1, 2, 3, 4], &full),
+    );
     write_out("write out plan A", &plan_a);
     write_out("write out a maximal plan", &maximal);
     let no_entries = large::only(&[1, 2, 3, 5], &maximal);
