@@ -32,7 +32,7 @@ static void events(struct plan p, uint64_t *run, uint8_t *last, uint32_t *five, 
         for (uint8_t i = 0; i < 64; i++)
             for (uint8_t t = 0; t < 64; t = (uint8_t)(t + 3))
                 spwd_c_request(p.rows, p.spans, p.aims, p.numbers, run, i, t, (uint8_t)(n % 3), (uint16_t)(n * 97 % 5000), answer);
-        spwd_c_time_code(p.rows, p.spans, p.aims, p.numbers, run, last, five, (uint8_t)(n % 66), n * 100, records, n % 50 == 0 ? 135 : 136, answer);
+        spwd_c_time_code(p.spans, p.aims, p.numbers, run, last, five, (uint8_t)(n % 66), n * 100, records, n % 50 == 0 ? 135 : 136, answer);
         for (uint8_t i = 0; i < 64; i++) spwd_c_reply(p.rows, p.numbers, run, i, (uint16_t)(n / 2), (uint8_t)(n % 20), answer);
         spwd_c_reading(p.numbers, five, n * 101, answer);
     }

@@ -171,9 +171,8 @@ void spwd_c_clear(uint64_t sets[3], uint8_t ends[128], uint8_t rows[8], uint64_t
 void spwd_c_load(const uint8_t *file, size_t size, uint64_t sets[3], uint8_t ends[128], uint8_t rows[8], uint64_t reach[8],
                  uint8_t paths[1408], uint8_t spans[512], uint64_t aims[512], uint32_t numbers[6], uint64_t run[96], uint8_t last[1],
                  uint32_t five[5], uint32_t verdict[5]);
-void spwd_c_time_code(const uint8_t rows[8], const uint8_t spans[512], const uint64_t aims[512], const uint32_t numbers[6],
-                      uint64_t run[96], uint8_t last[1], uint32_t five[5], uint8_t byte, uint32_t clock, uint8_t *records, size_t room,
-                      uint32_t answer[8]);
+void spwd_c_time_code(const uint8_t spans[512], const uint64_t aims[512], const uint32_t numbers[6], uint64_t run[96], uint8_t last[1],
+                      uint32_t five[5], uint8_t byte, uint32_t clock, uint8_t *records, size_t room, uint32_t answer[8]);
 void spwd_c_request(const uint8_t rows[8], const uint8_t spans[512], const uint64_t aims[512], const uint32_t numbers[6],
                     uint64_t run[96], uint8_t initiator, uint8_t target, uint8_t kind, uint16_t length, uint32_t answer[8]);
 void spwd_c_reply(const uint8_t rows[8], const uint32_t numbers[6], uint64_t run[96], uint8_t initiator, uint16_t number,
@@ -249,7 +248,7 @@ static inline spwd_answer spwd_time_code(spwd_box *box, uint8_t byte, uint32_t c
     const spwd_plan *plan = &box->plan;
     uint8_t nothing[1] = {0};
     uint32_t answer[8];
-    spwd_c_time_code(plan->rows, plan->spans, plan->aims, plan->numbers, box->run, box->last, box->five, byte, clock,
+    spwd_c_time_code(plan->spans, plan->aims, plan->numbers, box->run, box->last, box->five, byte, clock,
                      room == 0 ? nothing : records, room, answer);
     return spwd_answer_of(answer);
 }

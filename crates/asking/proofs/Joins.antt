@@ -11,14 +11,14 @@ use Rattle.box_rules.specs.Turn.{join}
 use Rattle.initiators.specs.Run.{rowOf}
 use Rattle.asking.specs.Sides.{isFull, askedAnswer, askedSide}
 
-module _ (s : Side) (row : List ℕ) (t k n : ℕ) where
+module _ (i : ℕ) (s : Side) (row : List ℕ) (t k n : ℕ) where
   abbrev Asked : Answer → Type 0
-  Asked r = (r ≡ askedAnswer s) × (row ≡ rowOf (askedSide t k n s))
+  Asked r = (r ≡ askedAnswer s) × (row ≡ rowOf i (askedSide t k n s))
 
-  pub full : row ≡ rowOf s → 8 ≤ length (s .line) → Asked (Refused 26)
+  pub full : row ≡ rowOf i s → 8 ≤ length (s .line) → Asked (Refused 26)
   unfolding askedAnswer askedSide isFull
   full is h = let e = le-leb 8 (length (s .line)) h in (rw e, rw e is)
 
-  pub joins : length (s .line) < 8 → (m : ℕ) → (m ≡ s .next) × (row ≡ rowOf (join t k n s)) → Asked (Joined m)
+  pub joins : length (s .line) < 8 → (m : ℕ) → (m ≡ s .next) × (row ≡ rowOf i (join t k n s)) → Asked (Joined m)
   unfolding askedAnswer askedSide isFull
   joins h m (next, is) = let e = lt-leb 8 (length (s .line)) h in (rw (e, next), rw e is)

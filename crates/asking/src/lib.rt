@@ -71,22 +71,28 @@ pub fn may_start(spans: &[u8; 512], aims: &[u64; 512], row: usize, target: u8, l
 }
 
 // A request that the plan permits: refusal 26, or it joins the line.
-fn ask_row(row: &mut [u64], target: u8, kind: u8, length: u16) -> Answer
+fn ask_row(row: &mut [u64], initiator: u8, target: u8, kind: u8, length: u16) -> Answer
     requires { ⌜ IsRow (now row) ⌝ }
-    ensures { λ r. ⌜ ((s : Side) → FitSide s → now (row .entry) ≡ rowOf s → (r ≡ askedAnswer s) × (now (row .exit) ≡ rowOf (askedSide target kind length s))) ⌝ }
+    ensures { λ r. ⌜ ((s : Side) → FitSide s → now (row .entry) ≡ rowOf initiator s → (r ≡ askedAnswer s) × (now (row .exit) ≡ rowOf initiator (askedSide target kind length s))) ⌝ }
 {
     if 8 <= waiting(row) {
         return Answer::Refused { number: 26 };
     }
-    let number = join_row(row, target, kind, length);
+    let number = join_row(row, initiator, target, kind, length);
     Answer::Joined { number }
 }
 
-// The same in run memory.
-pub fn ask(run: &mut [u64], row: usize, target: u8, kind: u8, length: u16) -> Answer
+// The same in run memory, where the row is the initiator's.
+pub fn ask(run: &mut [u64], row: usize, initiator: u8, target: u8, kind: u8, length: u16) -> Answer
     requires { ⌜ (lists.length (now run) ≡ 96) × (row < 8) ⌝ }
-    ensures { λ r. ⌜ ((s : ℕ → Side) → ((k : ℕ) → FitSide (s k)) → now (run .entry) ≡ rowsWith s →
-        (r ≡ askedAnswer (s row)) × (now (run .exit) ≡ rowsWith (changed row (askedSide target kind length (s row)) s))) ⌝ }
+    ensures { λ r. ⌜ ((n : ℕ → ℕ) (s : ℕ → Side) → n row ≡ initiator → ((k : ℕ) → FitSide (s k)) → now (run .entry) ≡ rowsWith n s →
+        (r ≡ askedAnswer (s row)) × (now (run .exit) ≡ rowsWith n (changed row (askedSide target kind length (s row)) s))) ⌝ }
 {
-    ask_row(&mut run[row * 12..row * 12 + 12], target, kind, length)
+    ask_row(
+        &mut run[row * 12..row * 12 + 12],
+        initiator,
+        target,
+        kind,
+        length,
+    )
 }

@@ -46,7 +46,7 @@ pub fn put_watchdog(five: &mut [u32; 5], w: Watchdog)
     *five = [w.last, w.seen, w.reported, w.least, w.greatest];
 }
 
-// The same over the five numbers of an event. Where none changes nothing is stored: the next event need not wait for a store.
+// The same over the five numbers of a reading. Most change none, and then nothing is stored: the next reading need not wait for a store.
 pub fn put_changed(five: &mut [u32; 5], w: Watchdog)
     ensures { λ _. ⌜ now (five .exit) ≡ listedFive w ⌝ }
 {

@@ -32,22 +32,22 @@ module _ (m : ℕ) where
   end-told none h = not-both h refl
   end-told (some l) h = refl
 
-module _ (s : Side) (row : List ℕ) (m status : ℕ) where
+module _ (i : ℕ) (s : Side) (row : List ℕ) (m status : ℕ) where
   abbrev Replied : Answer → Type 0
-  Replied r = (r ≡ repliedAnswer m status s) × (row ≡ rowOf (repliedSide m s))
+  Replied r = (r ≡ repliedAnswer m status s) × (row ≡ rowOf i (repliedSide m s))
 
-  pub nothing-live : row ≡ rowOf s → isSome (s .live) ≡ false → Replied (Refused 27)
+  pub nothing-live : row ≡ rowOf i s → isSome (s .live) ≡ false → Replied (Refused 27)
   unfolding repliedAnswer repliedSide
   nothing-live is h = (rw h, rw (no-number m (s .live) h) is)
 
   module _ (live : isSome (s .live) ≡ true) where
-    pub another-live : row ≡ rowOf s → (liveRequest (s .live)) .number ≢ m → Replied (Refused 28)
+    pub another-live : row ≡ rowOf i s → (liveRequest (s .live)) .number ≢ m → Replied (Refused 28)
     unfolding repliedAnswer repliedSide
     another-live is h =
         let d = number-told m (s .live) live ∙ ne-eqb m ((liveRequest (s .live)) .number) (λ z. h (sym z)) in
         (rw (live, d), rw d is)
 
-    pub finishes : (liveRequest (s .live)) .number ≡ m → row ≡ rowOf (finish s)
+    pub finishes : (liveRequest (s .live)) .number ≡ m → row ≡ rowOf i (finish s)
         → (t n c : ℕ) → t ≡ (liveRequest (s .live)) .target → n ≡ (liveRequest (s .live)) .length → c ≡ class status → Replied (Ended t n status c)
     unfolding repliedAnswer repliedSide
     finishes h is t n c et en ec =

@@ -29,7 +29,7 @@ pub fn class_of(status: u8) -> u8
 // A reply of an initiator: refusal 27 or 28, or it ends the live transaction.
 fn end_row(row: &mut [u64], number: u16, status: u8) -> Answer
     requires { ⌜ IsRow (now row) ⌝ }
-    ensures { λ r. ⌜ ((s : Side) → FitSide s → now (row .entry) ≡ rowOf s → (r ≡ repliedAnswer number status s) × (now (row .exit) ≡ rowOf (repliedSide number s))) ⌝ }
+    ensures { λ r. ⌜ ((i : ℕ) (s : Side) → FitSide s → now (row .entry) ≡ rowOf i s → (r ≡ repliedAnswer number status s) × (now (row .exit) ≡ rowOf i (repliedSide number s))) ⌝ }
 {
     if !has_live(row) {
         return Answer::Refused { number: 27 };
@@ -52,8 +52,8 @@ fn end_row(row: &mut [u64], number: u16, status: u8) -> Answer
 // The same in run memory.
 pub fn end(run: &mut [u64], row: usize, number: u16, status: u8) -> Answer
     requires { ⌜ (length (now run) ≡ 96) × (row < 8) ⌝ }
-    ensures { λ r. ⌜ ((s : ℕ → Side) → ((k : ℕ) → FitSide (s k)) → now (run .entry) ≡ rowsWith s →
-        (r ≡ repliedAnswer number status (s row)) × (now (run .exit) ≡ rowsWith (changed row (repliedSide number (s row)) s))) ⌝ }
+    ensures { λ r. ⌜ ((n : ℕ → ℕ) (s : ℕ → Side) → ((k : ℕ) → FitSide (s k)) → now (run .entry) ≡ rowsWith n s →
+        (r ≡ repliedAnswer number status (s row)) × (now (run .exit) ≡ rowsWith n (changed row (repliedSide number (s row)) s))) ⌝ }
 {
     end_row(&mut run[row * 12..row * 12 + 12], number, status)
 }

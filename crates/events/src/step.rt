@@ -28,7 +28,6 @@ pub fn step_with(
 {
     match event {
         Event::TimeCode { byte, clock } => time_code(
-            rows,
             spans,
             aims,
             numbers,

@@ -3,7 +3,7 @@
 ghost use mathlib.Core.Path.{_≡_};
 ghost use mathlib.Core.List.{[], _∷_, _++_};
 ghost use mathlib.Core.Bool.{true};
-ghost use Prim.Native.Nat.{_+_, _%_, _<_};
+ghost use Prim.Native.Nat.{ℕ, _+_, _%_, _<_};
 ghost use lib.ListN.{length, getD};
 ghost use lib.Dec.{eqb};
 ghost use Rattle.lists.specs.Place.{first, without};
@@ -15,6 +15,8 @@ ghost use Rattle.plan_view.specs.View.{placeOr, Tells};
 ghost use Rattle.initiators.specs.Run.{rowOf, wordOf};
 ghost use Rattle.initiators.specs.Row.{IsRow};
 ghost use Rattle.in_line.specs.Line.{HasRoom, leaves};
+use initiators::word::length_in;
+use initiators::word::target_in;
 use initiators::word::word_of;
 use plan_view::entry::permits;
 
@@ -26,16 +28,16 @@ fn next_number(number: u16) -> u16
 }
 
 // "Joins its initiator's line and gets that initiator's next 16-bit transaction number"
-pub fn join_row(row: &mut [u64], target: u8, kind: u8, length: u16) -> u16
+pub fn join_row(row: &mut [u64], initiator: u8, target: u8, kind: u8, length: u16) -> u16
     requires { ⌜ IsRow (now row) ⌝ }
-    ensures { λ r. ⌜ ((s : Side) → FitSide s → now (row .entry) ≡ rowOf s → HasRoom s → (r ≡ s .next) × (now (row .exit) ≡ rowOf (join target kind length s))) ⌝ }
+    ensures { λ r. ⌜ ((s : Side) → FitSide s → now (row .entry) ≡ rowOf initiator s → HasRoom s → (r ≡ s .next) × (now (row .exit) ≡ rowOf initiator (join target kind length s))) ⌝ }
 {
     let n = row[1] as usize;
     let number = (row[0] % 65536) as u16;
     if n >= 8 {
         return number;
     }
-    row[n + 2] = word_of(target, kind, length, number);
+    row[n + 2] = word_of(initiator, target, kind, length, number);
     row[1] = n as u64 + 1;
     row[0] = next_number(number) as u64;
     number
@@ -43,21 +45,16 @@ pub fn join_row(row: &mut [u64], target: u8, kind: u8, length: u16) -> u16
 
 // Whether an entry with these targets and this span permits the request of a word.
 fn permits_word(word: u64, targets: u64, span: u8) -> bool
-    ensures { λ b. ⌜ ((p : Plan) (e : Entry) (r : Request) → Tells targets span e → FitRequest r → word ≡ wordOf r → b ≡ allows p e r) ⌝ }
+    ensures { λ b. ⌜ ((p : Plan) (e : Entry) (i : ℕ) (r : Request) → Tells targets span e → FitRequest r → word ≡ wordOf i r → b ≡ allows p e r) ⌝ }
 {
-    permits(
-        targets,
-        span,
-        (word % 256) as u8,
-        (word / 65536 % 65536) as u16,
-    )
+    permits(targets, span, target_in(word), length_in(word))
 }
 
 // Whether a request waits and the entry permits the oldest.
 pub fn permits_oldest(row: &[u64], targets: u64, span: u8) -> bool
     requires { ⌜ IsRow (now row) ⌝ }
     ensures { λ r. ⌜ (r ≡ true → 0 < getD (now (row .entry)) 1 0) ⌝ }
-    ensures { λ r. ⌜ ((s : Side) → FitSide s → now (row .entry) ≡ rowOf s → (p : Plan) (e : Entry) → Tells targets span e → r ≡ eqb (placeOr 8 (first (allows p e) (s .line))) 0) ⌝ }
+    ensures { λ r. ⌜ ((i : ℕ) (s : Side) → FitSide s → now (row .entry) ≡ rowOf i s → (p : Plan) (e : Entry) → Tells targets span e → r ≡ eqb (placeOr 8 (first (allows p e) (s .line))) 0) ⌝ }
 {
     if row[1] == 0 {
         return false;
@@ -69,7 +66,7 @@ pub fn permits_oldest(row: &[u64], targets: u64, span: u8) -> bool
 pub fn find_row(row: &[u64], targets: u64, span: u8) -> usize
     requires { ⌜ IsRow (now row) ⌝ }
     ensures { λ r. ⌜ (r < 8 → r < getD (now (row .entry)) 1 0) ⌝ }
-    ensures { λ r. ⌜ ((s : Side) → FitSide s → now (row .entry) ≡ rowOf s → (p : Plan) (e : Entry) → Tells targets span e → r ≡ placeOr 8 (first (allows p e) (s .line))) ⌝ }
+    ensures { λ r. ⌜ ((i : ℕ) (s : Side) → FitSide s → now (row .entry) ≡ rowOf i s → (p : Plan) (e : Entry) → Tells targets span e → r ≡ placeOr 8 (first (allows p e) (s .line))) ⌝ }
 {
     let n = row[1] as usize;
     let mut i = 0;
@@ -116,7 +113,7 @@ fn move_up(places: &mut [u64], k: usize)
 // The request at place k leaves the line.
 pub fn take_row(row: &mut [u64], k: usize)
     requires { ⌜ IsRow (now row) × (k < 8) × (k < getD (now row) 1 0) ⌝ }
-    ensures { λ r. ⌜ ((s : Side) → FitSide s → now (row .entry) ≡ rowOf s → now (row .exit) ≡ rowOf (leaves k s)) ⌝ }
+    ensures { λ r. ⌜ ((i : ℕ) (s : Side) → FitSide s → now (row .entry) ≡ rowOf i s → now (row .exit) ≡ rowOf i (leaves k s)) ⌝ }
 {
     let n = row[1];
     move_up(&mut row[2..10], k);

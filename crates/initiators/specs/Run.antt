@@ -1,7 +1,7 @@
 -- Run memory: 96 words that the caller lends, a row of twelve for each initiator of the plan in the order of plan memory's rows, and one
 -- number for the last accepted time-code. Each is a function of the box; rows without an initiator are 0, as those of an idle side.
 use mathlib.Core.Path.{_≡_}
-use Prim.Native.Nat.{ℕ, _+_, _*_}
+use Prim.Native.Nat.{ℕ, _+_, _-_, _*_, _/_, _%_}
 use mathlib.Core.List.{List, [], _∷_, _++_, map, flatMap}
 use mathlib.Core.Option.{Option, none, some}
 use mathlib.Core.Bool.{cond}
@@ -12,24 +12,50 @@ use Rattle.lists.specs.Place.{atPlace}
 use Rattle.lists.specs.Cells.{padded}
 use Rattle.plan_rules.specs.Plan.{Plan}
 use Rattle.plan_rules.specs.Meaning.{initiators}
+use Rattle.plan_memory.specs.Memory.{ofRow}
 use Rattle.box_rules.specs.State.{Request, Live, Side, Box, idle, thePlan}
 
--- a request as one word: target, kind, length, number, from the low end
-unfoldable pub wordOf : Request → ℕ
-wordOf r = r .target + r .kind * 256 + r .length * 65_536 + r .number * 4_294_967_296
+-- two bytes in the other order
+unfoldable pub swapped : ℕ → ℕ
+swapped n = n / 256 + n % 256 * 256
 
--- the live transaction as two words: its request, and span × 256 + age (a span is 1 at least); 0 and 0 for none
-unfoldable pub liveWord : Option Live → ℕ
-liveWord none = 0
-liveWord (some l) = wordOf (l .request)
+-- a request of initiator i as one word: the eight bytes of its records, the first the lowest, the record's kind and v still 0. The top
+-- bit of the first byte is the request's own kind; an initiator is below 64, so that it is its byte
+unfoldable pub wordOf : ℕ → Request → ℕ
+wordOf i r =
+    r .kind * 128
+    + i % 256 * 256
+    + r .target * 65_536
+    + swapped (r .number) * 4_294_967_296
+    + swapped (r .length) * 281_474_976_710_656
+
+-- what a word tells of its request
+unfoldable pub targetIn : ℕ → ℕ
+targetIn w = w / 65_536 % 64
+
+unfoldable pub numberIn : ℕ → ℕ
+numberIn w = swapped (w / 4_294_967_296 % 65_536)
+
+unfoldable pub lengthIn : ℕ → ℕ
+lengthIn w = swapped (w / 281_474_976_710_656 % 65_536)
+
+-- the live transaction as two words: its request, and (span − age) × 256 + span: how many time-codes are left to it, at least one, and
+-- its span; 0 and 0 for none
+unfoldable pub liveWord : ℕ → Option Live → ℕ
+liveWord i none = 0
+liveWord i (some l) = wordOf i (l .request)
 
 unfoldable pub liveTime : Option Live → ℕ
 liveTime none = 0
-liveTime (some l) = l .span * 256 + l .age
+liveTime (some l) = (l .span - l .age) * 256 + l .span
 
--- a side's row: next number, how many wait, eight places of the line, the live transaction
-unfoldable pub rowOf : Side → List ℕ
-rowOf s = s .next ∷ length (s .line) ∷ padded 8 0 (map wordOf (s .line)) ++ (liveWord (s .live) ∷ liveTime (s .live) ∷ [])
+-- the row of initiator i's side: next number, how many wait, eight places of the line, the live transaction
+unfoldable pub rowOf : ℕ → Side → List ℕ
+rowOf i s = s .next ∷ length (s .line) ∷ padded 8 0 (map (wordOf i) (s .line)) ++ (liveWord i (s .live) ∷ liveTime (s .live) ∷ [])
+
+-- the initiator of row r, 0 where the plan has no such initiator
+unfoldable pub initiatorOf : Plan → ℕ → ℕ
+initiatorOf p r = ofRow p r (λ (i : ℕ). i)
 
 -- the side of row r, idle where the plan has no such initiator
 unfoldable pub sideOf : Plan → (ℕ → Side) → ℕ → Side
@@ -39,12 +65,12 @@ sideOf p side r = elim (atPlace r (initiators p)) [ none ↦ idle | some i ↦ s
 unfoldable pub changed : ℕ → Side → (ℕ → Side) → ℕ → Side
 changed row x s r = cond (eqb r row) x (s r)
 
--- eight rows with these sides
-unfoldable pub rowsWith : (ℕ → Side) → List ℕ
-rowsWith s = flatMap (λ (r : ℕ). rowOf (s r)) (upFrom 8 0)
+-- eight rows with these initiators and sides
+unfoldable pub rowsWith : (ℕ → ℕ) → (ℕ → Side) → List ℕ
+rowsWith n s = flatMap (λ (r : ℕ). rowOf (n r) (s r)) (upFrom 8 0)
 
 unfoldable pub runOf : Plan → (ℕ → Side) → List ℕ
-runOf p side = rowsWith (sideOf p side)
+runOf p side = rowsWith (initiatorOf p) (sideOf p side)
 
 -- the last accepted time-code: 0 for none, else its byte and 1
 unfoldable pub lastOf : Option ℕ → ℕ

@@ -1,6 +1,7 @@
 // One initiator's row of run memory, twelve words: its next number, how many wait, eight places of the line, its live transaction.
 // Each contract holds for every side that the row is of.
 ghost use mathlib.Core.Path.{_≡_};
+ghost use Prim.Native.Nat.{ℕ};
 ghost use lib.ListN.{length};
 ghost use Rattle.lists.specs.Search.{isSome};
 ghost use Rattle.box_rules.specs.State.{Side};
@@ -8,17 +9,20 @@ ghost use Rattle.box_rules.specs.Turn.{finish};
 ghost use Rattle.box_rules.specs.laws.Fit.{FitSide};
 ghost use Rattle.initiators.specs.Run.{rowOf, liveWord};
 ghost use Rattle.initiators.specs.Row.{IsRow, liveRequest};
+use crate::word::length_in;
+use crate::word::number_in;
+use crate::word::target_in;
 
 pub fn waiting(row: &[u64]) -> u64
     requires { ⌜ IsRow (now row) ⌝ }
-    ensures { λ r. ⌜ ((s : Side) → FitSide s → now (row .entry) ≡ rowOf s → r ≡ length (s .line)) ⌝ }
+    ensures { λ r. ⌜ ((i : ℕ) (s : Side) → FitSide s → now (row .entry) ≡ rowOf i s → r ≡ length (s .line)) ⌝ }
 {
     row[1]
 }
 
 pub fn has_live(row: &[u64]) -> bool
     requires { ⌜ IsRow (now row) ⌝ }
-    ensures { λ r. ⌜ ((s : Side) → FitSide s → now (row .entry) ≡ rowOf s → r ≡ isSome (s .live)) ⌝ }
+    ensures { λ r. ⌜ ((i : ℕ) (s : Side) → FitSide s → now (row .entry) ≡ rowOf i s → r ≡ isSome (s .live)) ⌝ }
 {
     row[11] != 0
 }
@@ -26,36 +30,36 @@ pub fn has_live(row: &[u64]) -> bool
 // The request of the live transaction as its word, 0 where there is none.
 pub fn live_word(row: &[u64]) -> u64
     requires { ⌜ IsRow (now row) ⌝ }
-    ensures { λ r. ⌜ ((s : Side) → FitSide s → now (row .entry) ≡ rowOf s → r ≡ liveWord (s .live)) ⌝ }
+    ensures { λ r. ⌜ ((i : ℕ) (s : Side) → FitSide s → now (row .entry) ≡ rowOf i s → r ≡ liveWord i (s .live)) ⌝ }
 {
     row[10]
 }
 
 pub fn live_number(row: &[u64]) -> u16
     requires { ⌜ IsRow (now row) ⌝ }
-    ensures { λ r. ⌜ ((s : Side) → FitSide s → now (row .entry) ≡ rowOf s → r ≡ (liveRequest (s .live)) .number) ⌝ }
+    ensures { λ r. ⌜ ((i : ℕ) (s : Side) → FitSide s → now (row .entry) ≡ rowOf i s → r ≡ (liveRequest (s .live)) .number) ⌝ }
 {
-    (row[10] / 4294967296 % 65536) as u16
+    number_in(row[10])
 }
 
 pub fn live_target(row: &[u64]) -> u8
     requires { ⌜ IsRow (now row) ⌝ }
-    ensures { λ r. ⌜ ((s : Side) → FitSide s → now (row .entry) ≡ rowOf s → r ≡ (liveRequest (s .live)) .target) ⌝ }
+    ensures { λ r. ⌜ ((i : ℕ) (s : Side) → FitSide s → now (row .entry) ≡ rowOf i s → r ≡ (liveRequest (s .live)) .target) ⌝ }
 {
-    (row[10] % 256) as u8
+    target_in(row[10])
 }
 
 pub fn live_length(row: &[u64]) -> u16
     requires { ⌜ IsRow (now row) ⌝ }
-    ensures { λ r. ⌜ ((s : Side) → FitSide s → now (row .entry) ≡ rowOf s → r ≡ (liveRequest (s .live)) .length) ⌝ }
+    ensures { λ r. ⌜ ((i : ℕ) (s : Side) → FitSide s → now (row .entry) ≡ rowOf i s → r ≡ (liveRequest (s .live)) .length) ⌝ }
 {
-    (row[10] / 65536 % 65536) as u16
+    length_in(row[10])
 }
 
 // "Ends the live transaction"
 pub fn finish_row(row: &mut [u64])
     requires { ⌜ IsRow (now row) ⌝ }
-    ensures { λ r. ⌜ ((s : Side) → FitSide s → now (row .entry) ≡ rowOf s → now (row .exit) ≡ rowOf (finish s)) ⌝ }
+    ensures { λ r. ⌜ ((i : ℕ) (s : Side) → FitSide s → now (row .entry) ≡ rowOf i s → now (row .exit) ≡ rowOf i (finish s)) ⌝ }
 {
     row[10] = 0;
     row[11] = 0;

@@ -1,9 +1,37 @@
 // A request as one word of run memory.
 ghost use mathlib.Core.Path.{_≡_};
-ghost use Prim.Native.Nat.{_+_, _*_};
+ghost use Rattle.initiators.specs.Run as run;
 
-pub fn word_of(target: u8, kind: u8, length: u16, number: u16) -> u64
-    ensures { λ r. ⌜ r ≡ target + kind * 256 + length * 65536 + number * 4294967296 ⌝ }
+// Two bytes in the other order: a record has the high byte first, a word the low one.
+fn swapped(n: u16) -> u16
+    ensures { λ r. ⌜ r ≡ run.swapped n ⌝ }
 {
-    (target as u64) + (kind as u64) * 256 + (length as u64) * 65536 + (number as u64) * 4294967296
+    n / 256 + n % 256 * 256
+}
+
+// A request as one word: its own kind, then what its records say of it.
+pub fn word_of(initiator: u8, target: u8, kind: u8, length: u16, number: u16) -> u64
+    ensures { λ r. ⌜ r ≡ run.wordOf initiator (record { target = target; kind = kind; length = length; number = number }) ⌝ }
+{
+    let last = swapped(number) as u64 + swapped(length) as u64 * 65_536;
+    (kind as u64) * 128 + (initiator as u64) * 256 + (target as u64) * 65_536 + last * 4_294_967_296
+}
+
+// What a word tells of its request.
+pub fn target_in(word: u64) -> u8
+    ensures { λ r. ⌜ r ≡ run.targetIn word ⌝ }
+{
+    (word / 65_536 % 64) as u8
+}
+
+pub fn number_in(word: u64) -> u16
+    ensures { λ r. ⌜ r ≡ run.numberIn word ⌝ }
+{
+    swapped((word / 4_294_967_296 % 65_536) as u16)
+}
+
+pub fn length_in(word: u64) -> u16
+    ensures { λ r. ⌜ r ≡ run.lengthIn word ⌝ }
+{
+    swapped((word / 281_474_976_710_656 % 65_536) as u16)
 }

@@ -7,7 +7,7 @@ ghost use Rattle.lists.specs.Puts.{Puts};
 ghost use Rattle.plan_rules.specs.Plan.{Plan};
 ghost use Rattle.plan_rules.specs.Meaning.{initiators};
 ghost use Rattle.plan_rules.specs.laws.Sound.{Sound};
-ghost use Rattle.plan_memory.specs.Memory.{rowsOf, numbersWith};
+ghost use Rattle.plan_memory.specs.Memory.{numbersWith};
 ghost use Rattle.box_rules.specs.State.{Side};
 ghost use Rattle.box_rules.specs.Turn.{aged};
 ghost use Rattle.box_rules.specs.Records.{recordBytes, lateRecord};
@@ -19,23 +19,16 @@ use records::put_full;
 use turns::age_row;
 
 // Lateness of one initiator.
-fn late_row(
-    row: &mut [u64],
-    out: &mut [u8],
-    at: usize,
-    initiator: u8,
-    v: u8,
-    in_sequence: bool,
-) -> usize
+fn late_row(row: &mut [u64], out: &mut [u8], at: usize, v: u8, in_sequence: bool) -> usize
     requires { ⌜ IsRow (now row) × (at + 8 ≤ length (now out)) ⌝ }
-    ensures { λ r. ⌜ ((clock : ℕ) (s : Side) → FitSide s → now (row .entry) ≡ rowOf s →
-        (now (row .exit) ≡ rowOf (aged «in_sequence» s))
-        × Puts (now (out .entry)) at (flatMap (recordBytes clock) (lateRecord «in_sequence» initiator v (s .live))) (now (out .exit)) r) × (r ≤ at + 8) ⌝ }
+    ensures { λ r. ⌜ ((clock i : ℕ) (s : Side) → i < 256 → FitSide s → now (row .entry) ≡ rowOf i s →
+        (now (row .exit) ≡ rowOf i (aged «in_sequence» s))
+        × Puts (now (out .entry)) at (flatMap (recordBytes clock) (lateRecord «in_sequence» i v (s .live))) (now (out .exit)) r) × (r ≤ at + 8) ⌝ }
 {
     let late = age_row(row, in_sequence);
     let word = late.word;
     if late.late {
-        return put_full(out, at, 4, initiator, v, word);
+        return put_full(out, at, 4, v, word);
     }
     at
 }
@@ -46,28 +39,19 @@ fn late_at(
     row: usize,
     out: &mut [u8],
     at: usize,
-    initiator: u8,
     v: u8,
     in_sequence: bool,
 ) -> usize
     requires { ⌜ (length (now run) ≡ 96) × (row < 8) × (at + 8 ≤ length (now out)) ⌝ }
-    ensures { λ r. ⌜ ((clock : ℕ) (s : ℕ → Side) → ((k : ℕ) → FitSide (s k)) → now (run .entry) ≡ rowsWith s →
-        (now (run .exit) ≡ rowsWith (changed row (aged «in_sequence» (s row)) s))
-        × Puts (now (out .entry)) at (flatMap (recordBytes clock) (lateRecord «in_sequence» initiator v ((s row) .live))) (now (out .exit)) r) × (r ≤ at + 8) ⌝ }
+    ensures { λ r. ⌜ ((clock : ℕ) (n : ℕ → ℕ) (s : ℕ → Side) → n row < 256 → ((k : ℕ) → FitSide (s k)) → now (run .entry) ≡ rowsWith n s →
+        (now (run .exit) ≡ rowsWith n (changed row (aged «in_sequence» (s row)) s))
+        × Puts (now (out .entry)) at (flatMap (recordBytes clock) (lateRecord «in_sequence» (n row) v ((s row) .live))) (now (out .exit)) r) × (r ≤ at + 8) ⌝ }
 {
-    late_row(
-        &mut run[row * 12..row * 12 + 12],
-        out,
-        at,
-        initiator,
-        v,
-        in_sequence,
-    )
+    late_row(&mut run[row * 12..row * 12 + 12], out, at, v, in_sequence)
 }
 
 // Lateness of every initiator.
 pub fn report_late(
-    rows: &[u8; 8],
     numbers: &[u32; 6],
     run: &mut [u64; 96],
     out: &mut [u8],
@@ -76,7 +60,7 @@ pub fn report_late(
     in_sequence: bool,
 ) -> usize
     requires { ⌜ at + 64 ≤ length (now out) ⌝ }
-    ensures { λ r. ⌜ ((clock size : ℕ) (p : Plan) (side : ℕ → Side) → Sound p → now (rows .entry) ≡ rowsOf p → now (numbers .entry) ≡ numbersWith size p →
+    ensures { λ r. ⌜ ((clock size : ℕ) (p : Plan) (side : ℕ → Side) → Sound p → now (numbers .entry) ≡ numbersWith size p →
         ((i : ℕ) → FitSide (side i)) → now (run .entry) ≡ runOf p side →
         (now (run .exit) ≡ runOf p (λ (i : ℕ). aged «in_sequence» (side i)))
         × Puts (now (out .entry)) at (flatMap (recordBytes clock) (flatMap (λ (i : ℕ). lateRecord «in_sequence» i v ((side i) .live)) (initiators p))) (now (out .exit)) r) × (r ≤ at + 64) ⌝ }
@@ -88,7 +72,7 @@ pub fn report_late(
         if count <= row {
             return k;
         }
-        k = late_at(run, row, out, k, rows[row], v, in_sequence);
+        k = late_at(run, row, out, k, v, in_sequence);
         row += 1;
     }
     k

@@ -19,12 +19,12 @@ pub fn count_of(numbers: &[u32; 6]) -> usize
 pub fn row_of(rows: &[u8; 8], numbers: &[u32; 6], i: u8) -> usize
     ensures { λ r. ⌜ ((size : ℕ) (p : Plan) → Sound p → now (rows .entry) ≡ rowsOf p → now (numbers .entry) ≡ numbersWith size p → r ≡ rowFor p i) ⌝ }
 {
-    let count = count_of(numbers);
+    let count = numbers[2];
     let mut k = 0;
     while k < 8 {
         let b = rows[k];
         if b == i {
-            if k < count {
+            if (k as u32) < count {
                 return k;
             }
             return 8;

@@ -1,10 +1,11 @@
 -- Which records are put, and their bytes.
-use mathlib.Core.Path.{_≡_, sym, ap, ap₂, _∙_}
+use mathlib.Core.Path.{_≡_, sym, ap, _∙_}
 use mathlib.Core.List.{List, [], _∷_, flatMap}
 use mathlib.Core.Bool.{Bool, true, false}
-use Prim.Native.Nat.{ℕ, _+_, _*_, _/_, _%_, _≤_, _<_}
+use Prim.Native.Nat.{ℕ, _+_, _-_, _*_, _/_, _%_, _^_, _≤_, _<_}
 use native.Mathlib.Omega.{arith}
 use lib.ListN.{length}
+use lib.Arith.{digits-div}
 use Rattle.lists.specs.Search.{only}
 use Rattle.lists.specs.Stores.{Put}
 use Rattle.lists.specs.Puts.{Puts}
@@ -14,36 +15,24 @@ use Rattle.box_rules.specs.State.{Request}
 use Rattle.box_rules.specs.Watch.{isEarly, isOverdue}
 use Rattle.box_rules.specs.Records.{recordBytes, plain, full, watchdogRecord, sequenceRecord}
 use Rattle.box_rules.specs.laws.Fit.{FitRequest}
-use Rattle.initiators.specs.Run.{wordOf}
+use Rattle.initiators.specs.Run.{swapped, wordOf}
+use Rattle.initiators.specs.laws.Words.{apart}
 use Rattle.records.specs.Bytes.{bytesOf}
 use Rattle.records.specs.laws.One.{puts-one}
 
--- a byte of a word, told from what stands below and above it
-byte-1 : (w low x high : ℕ) → low < 256 → x < 256 → w ≡ low + (x + high * 256) * 256 → w / 256 % 256 ≡ x
-byte-1 w low x high l b e = let q : w / 256 ≡ x + high * 256 = omega (arith, l, e) in omega (arith, q, b)
+-- the byte of a word from n on, told from what stands below and above it
+byte-at : (n w low x high : ℕ) → low < n → x < 256 → w ≡ (x + high * 256) * n + low → w / n % 256 ≡ x
+byte-at n w low x high l b e = omega (arith, ap (λ (y : ℕ). y / n) e ∙ digits-div (x + high * 256) l, b)
 
-byte-2 : (w low x high : ℕ) → low < 65_536 → x < 256 → w ≡ low + (x + high * 256) * 65_536 → w / 65_536 % 256 ≡ x
-byte-2 w low x high l b e = let q : w / 65_536 ≡ x + high * 256 = omega (arith, l, e) in omega (arith, q, b)
-
-byte-3 : (w low x high : ℕ) → low < 16_777_216 → x < 256 → w ≡ low + (x + high * 256) * 16_777_216 → w / 16_777_216 % 256 ≡ x
-byte-3 w low x high l b e = let q : w / 16_777_216 ≡ x + high * 256 = omega (arith, l, e) in omega (arith, q, b)
-
-byte-4 : (w low x high : ℕ) → low < 4_294_967_296 → x < 256 → w ≡ low + (x + high * 256) * 4_294_967_296 → w / 4_294_967_296 % 256 ≡ x
-byte-4 w low x high l b e = let q : w / 4_294_967_296 ≡ x + high * 256 = omega (arith, l, e) in omega (arith, q, b)
-
-byte-5 : (w low x high : ℕ) → low < 1_099_511_627_776 → x < 256 → w ≡ low + (x + high * 256) * 1_099_511_627_776 → w / 1_099_511_627_776 % 256 ≡ x
-byte-5 w low x high l b e = let q : w / 1_099_511_627_776 ≡ x + high * 256 = omega (arith, l, e) in omega (arith, q, b)
-
-byte-6 : (w low x high : ℕ) → low < 281_474_976_710_656 → x < 256 → w ≡ low + (x + high * 256) * 281_474_976_710_656 → w / 281_474_976_710_656 % 256 ≡ x
-byte-6 w low x high l b e = let q : w / 281_474_976_710_656 ≡ x + high * 256 = omega (arith, l, e) in omega (arith, q, b)
-
-byte-7 : (w low x high : ℕ) → low < 72_057_594_037_927_936 → x < 256 → w ≡ low + (x + high * 256) * 72_057_594_037_927_936 → w / 72_057_594_037_927_936 % 256 ≡ x
-byte-7 w low x high l b e = let q : w / 72_057_594_037_927_936 ≡ x + high * 256 = omega (arith, l, e) in omega (arith, q, b)
-
--- a word made of eight bytes comes apart into them
+-- eight bytes make a word: below 2 ^ 64, and it comes apart into them
 module _ (a b c d e f g h : ℕ) (a< : a < 256) (b< : b < 256) (c< : c < 256) (d< : d < 256) (e< : e < 256) (f< : f < 256) (g< : g < 256) (h< : h < 256) where
-  pub bytes-of-sum : (w : ℕ) → w ≡ (a + d * 16_777_216) + (b * 256 + c * 65_536) + (e + f * 256 + g * 65_536 + h * 16_777_216) * 4_294_967_296
-      → bytesOf w ≡ a ∷ b ∷ c ∷ d ∷ e ∷ f ∷ g ∷ h ∷ []
+  abbrev sum : ℕ
+  sum = (b * 256 + c * 65_536 + (e + f * 256) * 4_294_967_296 + (g + h * 256) * 281_474_976_710_656) + (a + d * 16_777_216)
+
+  not-wrapped : sum % 2 ^ 64 ≡ sum
+  not-wrapped = omega arith
+
+  bytes-of-sum : (w : ℕ) → w ≡ sum → bytesOf w ≡ a ∷ b ∷ c ∷ d ∷ e ∷ f ∷ g ∷ h ∷ []
   unfolding bytesOf
   bytes-of-sum w s =
       let l2 = a + b * 256 in
@@ -57,34 +46,18 @@ module _ (a b c d e f g h : ℕ) (a< : a < 256) (b< : b < 256) (c< : c < 256) (d
       let h4 = e + h5 * 256 in
       let h3 = d + h4 * 256 in
       let h2 = c + h3 * 256 in
-      let h1 = b + h2 * 256 in
       let e0 : w % 256 ≡ a = omega arith in
-      let e1 = byte-1 w a b h2 a< b< (omega arith) in
-      let e2 = byte-2 w l2 c h3 (omega arith) c< (omega arith) in
-      let e3 = byte-3 w l3 d h4 (omega arith) d< (omega arith) in
-      let e4 = byte-4 w l4 e h5 (omega arith) e< (omega arith) in
-      let e5 = byte-5 w l5 f h6 (omega arith) f< (omega arith) in
-      let e6 = byte-6 w l6 g h (omega arith) g< (omega arith) in
-      let e7 = byte-7 w l7 h 0 (omega arith) h< (omega arith) in
+      let e1 = byte-at 256 w a b h2 a< b< (omega arith) in
+      let e2 = byte-at 65_536 w l2 c h3 (omega arith) c< (omega arith) in
+      let e3 = byte-at 16_777_216 w l3 d h4 (omega arith) d< (omega arith) in
+      let e4 = byte-at 4_294_967_296 w l4 e h5 (omega arith) e< (omega arith) in
+      let e5 = byte-at 1_099_511_627_776 w l5 f h6 (omega arith) f< (omega arith) in
+      let e6 = byte-at 281_474_976_710_656 w l6 g h (omega arith) g< (omega arith) in
+      let e7 = byte-at 72_057_594_037_927_936 w l7 h 0 (omega arith) h< (omega arith) in
       rw (e0, e1, e2, e3, e4, e5, e6, e7)
 
--- number and length in the word of a request, each as two bytes
-record Halves (w : ℕ) (x : Request) : Type 0 where
-  target : w % 256 ≡ x .target
-  upper : w / 65_536 ≡ x .length + x .number * 65_536
-
-halves : (x : Request) → FitRequest x → Halves (wordOf x) x
-unfolding wordOf
-halves x f = record { target = omega arith; upper = omega arith }
-
-four : (u l n : ℕ) → l < 65_536 → n < 65_536 → u ≡ l + n * 65_536
-    → u / 16_777_216 % 256 + u / 65_536 % 256 * 256 + u / 256 % 256 * 65_536 + u % 256 * 16_777_216 ≡ n / 256 + n % 256 * 256 + l / 256 * 65_536 + l % 256 * 16_777_216
-four u l n l< n< e =
-    let d : u / 256 % 256 ≡ l / 256 = byte-1 u (l % 256) (l / 256) n (omega arith) (omega (arith, l<)) (omega (arith, e)) in
-    let h : u / 65_536 % 256 ≡ n % 256 = byte-2 u l (n % 256) (n / 256) l< (omega arith) (omega (arith, e)) in
-    let c : u / 16_777_216 % 256 ≡ n / 256 = byte-3 u (l + n % 256 * 65_536) (n / 256) 0 (omega (arith, l<)) (omega (arith, n<)) (omega (arith, e)) in
-    let g : u % 256 ≡ l % 256 = omega (arith, e) in
-    rw (c, d, g, h)
+  bytes-of-wrapped : (w : ℕ) → w ≡ sum % 2 ^ 64 → bytesOf w ≡ a ∷ b ∷ c ∷ d ∷ e ∷ f ∷ g ∷ h ∷ []
+  bytes-of-wrapped w s = bytes-of-sum w (s ∙ not-wrapped)
 
 low-byte : (n : ℕ) → n % 256 < 256
 low-byte n = omega arith
@@ -98,22 +71,22 @@ node n h = omega arith
 short : (n : ℕ) → n ≤ 4096 → n < 65_536
 short n h = omega arith
 
--- the bytes of a request, told from its word
-pub full-puts : {l o : List ℕ} {j k : ℕ} (clock kind i v w t s : ℕ) (x : Request) → FitRequest x → w ≡ wordOf x → kind < 256 → i < 256 → v < 256
-    → t ≡ w / 65_536 / 16_777_216 % 256 + w / 65_536 / 65_536 % 256 * 256 + w / 65_536 / 256 % 256 * 65_536 + w / 65_536 % 256 * 16_777_216
-    → s ≡ (kind + v * 16_777_216) + (i * 256 + w % 256 * 65_536) + t * 4_294_967_296
-    → Put l j (bytesOf s) o k → Puts l j (recordBytes clock (full kind i v x)) o k
-unfolding recordBytes full
-full-puts clock kind i v w t s x f is k< i< v< et es p =
-    let m = halves x f in
-    let upper : w / 65_536 ≡ x .length + x .number * 65_536 = ap (λ (y : ℕ). y / 65_536) is ∙ m .upper in
-    let target : w % 256 ≡ x .target = ap (λ (y : ℕ). y % 256) is ∙ m .target in
+-- the word without the request's own kind
+bare : (i : ℕ) (x : Request) → i < 256 → FitRequest x
+    → wordOf i x - wordOf i x / 128 % 2 * 128 ≡ i * 256 + x .target * 65_536 + swapped (x .number) * 4_294_967_296 + swapped (x .length) * 281_474_976_710_656
+unfolding wordOf
+bare i x i< f = rw (apart i x f .kind) (omega (arith, i<))
+
+-- the bytes of a request's record, told from its word
+pub full-puts : {l o : List ℕ} {j k : ℕ} (clock kind i v w s : ℕ) (x : Request) → i < 256 → FitRequest x → w ≡ wordOf i x → kind < 256 → v < 256
+    → s ≡ ((w - w / 128 % 2 * 128) + (kind + v * 16_777_216)) % 2 ^ 64 → Put l j (bytesOf s) o k → Puts l j (recordBytes clock (full kind i v x)) o k
+unfolding recordBytes full swapped
+full-puts clock kind i v w s x i< f is k< v< es p =
     let l< = short (x .length) (f .length) in
-    let et′ = et ∙ four (w / 65_536) (x .length) (x .number) l< (f .number) upper in
+    let e = ap (λ (y : ℕ). y - y / 128 % 2 * 128) is ∙ bare i x i< f in
     let b =
-    bytes-of-sum kind i (x .target) v (x .number / 256) (x .number % 256) (x .length / 256) (x .length % 256) k< i< (node (x .target) (f .target)) v<
-    (high-byte (x .number) (f .number)) (low-byte (x .number)) (high-byte (x .length) l<) (low-byte (x .length)) s
-    (es ∙ ap₂ (λ (y z : ℕ). (kind + v * 16_777_216) + (i * 256 + y * 65_536) + z * 4_294_967_296) target et′)
+    bytes-of-wrapped kind i (x .target) v (x .number / 256) (x .number % 256) (x .length / 256) (x .length % 256) k< i< (node (x .target) (f .target)) v<
+    (high-byte (x .number) (f .number)) (low-byte (x .number)) (high-byte (x .length) l<) (low-byte (x .length)) s (es ∙ ap (λ (y : ℕ). (y + (kind + v * 16_777_216)) % 2 ^ 64) e)
     in
     record { fitting = λ _. rw b at p }
 

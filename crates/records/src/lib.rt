@@ -2,7 +2,7 @@
 ghost use mathlib.Core.Path.{_≡_};
 ghost use mathlib.Core.List.{flatMap};
 ghost use mathlib.Core.Bool.{true};
-ghost use Prim.Native.Nat.{ℕ, _+_, _*_, _/_, _%_, _≤_, _<_};
+ghost use Prim.Native.Nat.{ℕ, _+_, _≤_, _<_};
 ghost use lib.ListN.{length};
 ghost use Rattle.lists.specs.Stores.{Put};
 ghost use Rattle.lists.specs.Puts.{Puts};
@@ -43,25 +43,14 @@ fn put_word(out: &mut [u8], at: usize, word: u64) -> usize
     put_bytes(out, at, &bytes)
 }
 
-// The four low bytes of a word in the other order.
-fn swapped(word: u64) -> u64
-    ensures { λ r. ⌜ (r ≡ word / 16777216 % 256 + word / 65536 % 256 * 256 + word / 256 % 256 * 65536 + word % 256 * 16777216) × (r < 4294967296) ⌝ }
-{
-    word / 16_777_216 % 256
-        + word / 65_536 % 256 * 256
-        + word / 256 % 256 * 65_536
-        + word % 256 * 16_777_216
-}
-
-// "kinds 4 to 6 fill all": of the request of a word. Number and length stand in it one above the other, high byte last.
-pub fn put_full(out: &mut [u8], at: usize, kind: u8, initiator: u8, v: u8, word: u64) -> usize
+// "kinds 4 to 6 fill all": of the request of a word. The word has the record's bytes; its own kind makes room for the record's.
+pub fn put_full(out: &mut [u8], at: usize, kind: u8, v: u8, word: u64) -> usize
     requires { ⌜ at + 8 ≤ length (now out) ⌝ }
-    ensures { λ r. ⌜ ((clock : ℕ) (x : Request) → FitRequest x → word ≡ wordOf x → Puts (now (out .entry)) at (recordBytes clock (full kind initiator v x)) (now (out .exit)) r) × (r ≡ at + 8) ⌝ }
+    ensures { λ r. ⌜ ((clock i : ℕ) (x : Request) → i < 256 → FitRequest x → word ≡ wordOf i x → Puts (now (out .entry)) at (recordBytes clock (full kind i v x)) (now (out .exit)) r) × (r ≡ at + 8) ⌝ }
 {
-    let head = (kind as u64 + v as u64 * 16_777_216)
-        + (initiator as u64 * 256 + word % 256 * 65_536);
-    let tail = swapped(word / 65_536);
-    put_word(out, at, head + tail * 4_294_967_296)
+    let bare = word - word / 128 % 2 * 128;
+    let head = kind as u64 + v as u64 * 16_777_216;
+    put_word(out, at, std::num::wrapping_add_u64(bare, head))
 }
 
 // 1. "watchdog: kind 1 early …, else kind 2 late"

@@ -6,9 +6,9 @@ ghost use Rattle.box_rules.specs.declared.Watchdog.{Watchdog};
 ghost use Rattle.box_rules.specs.State.{Box};
 ghost use Rattle.box_rules.specs.Step as rules;
 ghost use Rattle.initiators.specs.Memory.{Finds, Answers};
+use crate::no_row::no_row;
 use box_rules::Answer;
 use ending::end;
-use plan_view::interval::is_loaded;
 use plan_view::row::row_of;
 
 pub fn reply(
@@ -22,12 +22,9 @@ pub fn reply(
     ensures { λ r. ⌜ ((b : Box) (spans aims last : List ℕ) → Finds b (now (rows .entry)) spans aims (now (numbers .entry)) (now (run .entry)) last →
         (room : ℕ) (w : Watchdog) → Answers (rules.step room b w (Reply initiator number status)) r (now (run .exit)) last) ⌝ }
 {
-    if !is_loaded(numbers) {
-        return Answer::Refused { number: 20 };
-    }
     let row = row_of(rows, numbers, initiator);
     if 8 <= row {
-        return Answer::Refused { number: 22 };
+        return no_row(numbers);
     }
     end(run, row, number, status)
 }

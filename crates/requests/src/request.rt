@@ -6,10 +6,10 @@ ghost use Rattle.box_rules.specs.declared.Watchdog.{Watchdog};
 ghost use Rattle.box_rules.specs.State.{Box};
 ghost use Rattle.box_rules.specs.Step as rules;
 ghost use Rattle.initiators.specs.Memory.{Finds, Answers};
+use crate::no_row::no_row;
 use asking::ask;
 use asking::may_start;
 use box_rules::Answer;
-use plan_view::interval::is_loaded;
 use plan_view::row::row_of;
 
 pub fn request(
@@ -26,12 +26,9 @@ pub fn request(
     ensures { λ r. ⌜ ((b : Box) (last : List ℕ) → Finds b (now (rows .entry)) (now (spans .entry)) (now (aims .entry)) (now (numbers .entry)) (now (run .entry)) last →
         (room : ℕ) (w : Watchdog) → Answers (rules.step room b w (Request initiator target kind length)) r (now (run .exit)) last) ⌝ }
 {
-    if !is_loaded(numbers) {
-        return Answer::Refused { number: 20 };
-    }
     let row = row_of(rows, numbers, initiator);
     if 8 <= row {
-        return Answer::Refused { number: 22 };
+        return no_row(numbers);
     }
     if 1 < kind {
         return Answer::Refused { number: 23 };
@@ -42,5 +39,5 @@ pub fn request(
     if !may_start(spans, aims, row, target, length) {
         return Answer::Refused { number: 25 };
     }
-    ask(run, row, target, kind, length)
+    ask(run, row, initiator, target, kind, length)
 }

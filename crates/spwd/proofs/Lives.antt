@@ -3,7 +3,8 @@ use mathlib.Core.Path.{_≡_, refl, sym, ap, _∙_}
 use mathlib.Core.Logic.{_≢_, _⊎_, inl, inr}
 use mathlib.Core.List.{List·Memᴰ}
 use mathlib.Core.Option.{Option, none, some}
-use Prim.Native.Nat.{ℕ, _+_, _*_, _<_}
+use Prim.Native.Nat.{ℕ, _+_, _-_, _*_, _/_, _%_, _<_}
+use native.Mathlib.Nat.{div-div-eq-div-mul}
 use native.Mathlib.Omega.{arith}
 use lib.ListN.{length}
 use Rattle.lists.specs.Place.{atPlace}
@@ -18,7 +19,8 @@ use Rattle.box_rules.specs.Step.{Outcome, step}
 use Rattle.box_rules.specs.Promises as box
 use Rattle.box_rules.specs.laws.Steps.{plan-kept}
 use Rattle.box_rules.specs.laws.Fit.{FitRequest}
-use Rattle.initiators.specs.Run.{wordOf, liveWord, liveTime, sideOf}
+use Rattle.initiators.specs.Run.{swapped, wordOf, targetIn, numberIn, lengthIn, liveWord, liveTime, sideOf}
+use Rattle.initiators.specs.laws.RunSides.{initiator-at}
 use Rattle.initiators.specs.laws.Words.{apart}
 use Rattle.calls.specs.Calls.{Memory, by-event}
 use Rattle.spwd.specs.Words.{runWord, requestIn}
@@ -27,10 +29,25 @@ use Rattle.spwd.proofs.Held.{held, outcome}
 use Rattle.spwd.proofs.Rows.{live-word, live-time, initiator-row}
 use Rattle.spwd.proofs.Written.{start-in}
 
+-- two bytes of a word, high byte first
+two-bytes : (x : ℕ) → x % 256 * 256 + x / 256 % 256 ≡ swapped (x % 65_536)
+unfolding swapped
+two-bytes x =
+    let q : x % 65_536 / 256 ≡ x / 256 % 256 = omega arith in
+    let r : x % 65_536 % 256 ≡ x % 256 = omega arith in
+    omega (arith, q, r)
+
+bytes-from : (w n : ℕ) → w / n % 256 * 256 + w / (n * 256) % 256 ≡ swapped (w / n % 65_536)
+bytes-from w n = ap (λ (y : ℕ). w / n % 256 * 256 + y % 256) (sym (div-div-eq-div-mul w n 256)) ∙ two-bytes (w / n)
+
 -- a word tells its request
-request-told : (r : state.Request) → FitRequest r → requestIn (wordOf r) ≡ r
-unfolding requestIn
-request-told r f = let a = apart r f in λ z. record { target = a .target z; kind = a .kind z; length = a .length z; number = a .number z }
+request-told : (i : ℕ) (r : state.Request) → FitRequest r → requestIn (wordOf i r) ≡ r
+unfolding requestIn targetIn numberIn lengthIn
+request-told i r f =
+    let a = apart i r f in
+    let number = bytes-from (wordOf i r) 4_294_967_296 ∙ a .number in
+    let length = bytes-from (wordOf i r) 281_474_976_710_656 ∙ a .length in
+    λ z. record { target = a .target z; kind = a .kind z; length = length z; number = number z }
 
 -- the live transaction of a row that says so
 record Lives (m : Memory) (b : Box) (r : ℕ) : Type 0 where
@@ -53,11 +70,11 @@ lives m b h r low n = go (atPlace r (initiators (thePlan b))) refl
 
 -- its words
 module _ (m : Memory) (b : Box) (h : HeldBy m b) (r i : ℕ) (low : r < 8) (at : atPlace r (initiators (thePlan b)) ≡ some i) (l : Live) (is : (b .side i) .live ≡ some l) where
-  word-is : runWord m r 10 ≡ wordOf (l .request)
+  word-is : runWord m r 10 ≡ wordOf i (l .request)
   unfolding sideOf liveWord
-  word-is = live-word m b h r low ∙ rw (at, sideOf, is, liveWord)
+  word-is = live-word m b h r low ∙ rw (initiator-at (thePlan b) r i at, at, sideOf, is, liveWord)
 
-  time-is : runWord m r 11 ≡ l .span * 256 + l .age
+  time-is : runWord m r 11 ≡ (l .span - l .age) * 256 + l .span
   unfolding sideOf liveTime
   time-is = live-time m b h r low ∙ rw (at, sideOf, is, liveTime)
 
@@ -86,7 +103,7 @@ live-by-record-only ok only before after e answer b came s r low n = go (only b 
     at : atPlace r (initiators (thePlan b)) ≡ some (x .initiator)
     at = rw (plan-kept size b w e) at (x .place)
 
-    word : runWord (after .memory) r 10 ≡ wordOf (x .live .request)
+    word : runWord (after .memory) r 10 ≡ wordOf (x .initiator) (x .live .request)
     word = word-is (after .memory) (o .box) h′ r (x .initiator) low (x .place) (x .live) (x .is)
 
     go : ((m : Live) × ((b .side (x .initiator)) .live ≡ some m) × (x .live .request ≡ m .request) × (x .live .span ≡ m .span))
@@ -100,10 +117,10 @@ live-by-record-only ok only before after e answer b came s r low n = go (only b 
         inl
         (record {
           live = λ z. omega (arith, f .young);
-          request = word ∙ ap wordOf request ∙ sym (word-is (before .memory) b h r (x .initiator) low at m is);
+          request = word ∙ ap (wordOf (x .initiator)) request ∙ sym (word-is (before .memory) b h r (x .initiator) low at m is);
           span = omega (arith, f .young, f .span, f′ .young, f′ .span, span);
         })
     go (inr (v, m)) =
         let f′ = (h′ .finds .fit .sides (x .initiator)) .live (x .live) (x .is) in
         let own = initiator-row (after .memory) (o .box) h′ r (x .initiator) (x .place) in
-        inr (rw (own, word, request-told (x .live .request) (f′ .request)) (start-in size b w e (outcome ok b e s h) (x .initiator) v (x .live .request) m))
+        inr (rw (own, word, request-told (x .initiator) (x .live .request) (f′ .request)) (start-in size b w e (outcome ok b e s h) (x .initiator) v (x .live .request) m))

@@ -4,7 +4,7 @@ use mathlib.Core.List.{List}
 use mathlib.Core.Logic.{_≢_, _↔_}
 use mathlib.Core.Option.{Option, none, some, Option·map}
 use mathlib.Core.Bool.{cond}
-use Prim.Native.Nat.{ℕ, _+_, _*_, _%_, _≤_, _<_}
+use Prim.Native.Nat.{ℕ, _+_, _-_, _*_, _/_, _%_, _≤_, _<_}
 use native.Mathlib.Omega.{arith}
 use lib.ListN.{length, take, drop}
 use lib.Seq.{getD-take, getD-drop}
@@ -21,7 +21,7 @@ use Rattle.plan_memory.specs.laws.InRows.{of-row, row-cell}
 use Rattle.plan_view.specs.laws.Rows.{row-initiator}
 use Rattle.box_rules.specs.State.{Box, Side, Live, idle, thePlan}
 use Rattle.box_rules.specs.laws.Fit.{FitSide, Fit}
-use Rattle.initiators.specs.Run.{liveWord, liveTime, rowOf, sideOf, runOf}
+use Rattle.initiators.specs.Run.{targetIn, liveWord, liveTime, rowOf, initiatorOf, sideOf, runOf}
 use Rattle.initiators.specs.laws.RunRows.{run-part}
 use Rattle.initiators.specs.laws.RunSides.{sides-fit}
 use Rattle.initiators.specs.laws.Words.{apart, live-word-in, live-time-in}
@@ -30,17 +30,17 @@ use Rattle.spwd.specs.Words.{RowOf, runWord, waitingIn, liveTargetIn}
 use Rattle.spwd.specs.Promises.{HeldBy}
 
 -- what is live, told from the last two words of a row
-module _ (s : Side) (f : FitSide s) where
-  live-told : (a c : ℕ) → a ≡ liveTime (s .live) → c ≡ liveWord (s .live) → cond (eqb a 0) none (some (c % 256)) ≡ Option·map (λ (l : Live). l .request .target) (s .live)
-  unfolding liveTime liveWord
+module _ (n : ℕ) (s : Side) (f : FitSide s) where
+  live-told : (a c : ℕ) → a ≡ liveTime (s .live) → c ≡ liveWord n (s .live) → cond (eqb a 0) none (some (c / 65_536 % 64)) ≡ Option·map (λ (l : Live). l .request .target) (s .live)
+  unfolding liveTime liveWord targetIn
   live-told a c ea ec = go (s .live) refl
     where
-      go : (o : Option Live) → s .live ≡ o → cond (eqb a 0) none (some (c % 256)) ≡ Option·map (λ (l : Live). l .request .target) (s .live)
+      go : (o : Option Live) → s .live ≡ o → cond (eqb a 0) none (some (c / 65_536 % 64)) ≡ Option·map (λ (l : Live). l .request .target) (s .live)
       go none is = rw (ea, is, liveTime)
       go (some l) is =
           let g = f .live l is in
-          let time : a ≡ l .span * 256 + l .age = rw (ea, is) in
-          let word : c % 256 ≡ l .request .target = rw (ec, is, liveWord) ((apart (l .request) (g .request)) .target) in
+          let time : a ≡ (l .span - l .age) * 256 + l .span = rw (ea, is) in
+          let word : c / 65_536 % 64 ≡ l .request .target = rw (ec, is, liveWord) ((apart n (l .request) (g .request)) .target) in
           let some-time : a ≢ 0 = λ z. omega (arith, g .young) in
           rw (ne-eqb a 0 some-time, is) (ap some word)
 
@@ -48,25 +48,25 @@ module _ (m : Memory) (b : Box) (h : HeldBy m b) where
   abbrev fit : Fit b
   fit = h .finds .fit
 
-  run-word : (r k : ℕ) → r < 8 → k < 12 → runWord m r k ≡ nth (rowOf (sideOf (thePlan b) (b .side) r)) k
+  run-word : (r k : ℕ) → r < 8 → k < 12 → runWord m r k ≡ nth (rowOf (initiatorOf (thePlan b) r) (sideOf (thePlan b) (b .side) r)) k
   unfolding runOf
   run-word r k low l =
       let e : 12 * r + k ≡ r * 12 + k = omega arith in
       let run = m .run in
       ap (nth run) e ∙ sym (getD-drop (r * 12) run k 0) ∙ sym (getD-take 12 (drop (r * 12) run) k 0 l)
       ∙ ap (λ (ws : List ℕ). nth (take 12 (drop (r * 12) ws)) k) (h .at .runs .run)
-      ∙ ap (λ (ws : List ℕ). nth ws k) (run-part (sideOf (thePlan b) (b .side)) (sides-fit b fit) r low)
+      ∙ ap (λ (ws : List ℕ). nth ws k) (run-part (initiatorOf (thePlan b)) (sideOf (thePlan b) (b .side)) (sides-fit b fit) r low)
 
   -- what is live by the words of a row is live in the box
-  pub live-word : (r : ℕ) → r < 8 → runWord m r 10 ≡ liveWord ((sideOf (thePlan b) (b .side) r) .live)
-  live-word r low = run-word r 10 low (omega arith) ∙ live-word-in (sideOf (thePlan b) (b .side) r) (sides-fit b fit r)
+  pub live-word : (r : ℕ) → r < 8 → runWord m r 10 ≡ liveWord (initiatorOf (thePlan b) r) ((sideOf (thePlan b) (b .side) r) .live)
+  live-word r low = run-word r 10 low (omega arith) ∙ live-word-in (initiatorOf (thePlan b) r) (sideOf (thePlan b) (b .side) r) (sides-fit b fit r)
 
   pub live-time : (r : ℕ) → r < 8 → runWord m r 11 ≡ liveTime ((sideOf (thePlan b) (b .side) r) .live)
-  live-time r low = run-word r 11 low (omega arith) ∙ live-time-in (sideOf (thePlan b) (b .side) r) (sides-fit b fit r)
+  live-time r low = run-word r 11 low (omega arith) ∙ live-time-in (initiatorOf (thePlan b) r) (sideOf (thePlan b) (b .side) r) (sides-fit b fit r)
 
   live-in : (r : ℕ) → r < 8 → liveTargetIn m r ≡ Option·map (λ (l : Live). l .request .target) ((sideOf (thePlan b) (b .side) r) .live)
   unfolding liveTargetIn
-  live-in r low = live-told (sideOf (thePlan b) (b .side) r) (sides-fit b fit r) (runWord m r 11) (runWord m r 10) (live-time r low) (live-word r low)
+  live-in r low = live-told (initiatorOf (thePlan b) r) (sideOf (thePlan b) (b .side) r) (sides-fit b fit r) (runWord m r 11) (runWord m r 10) (live-time r low) (live-word r low)
 
   -- the rows that are in use are those of the initiators
   in-use : nth (m .numbers) 2 ≡ length (initiators (thePlan b))

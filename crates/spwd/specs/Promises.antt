@@ -4,7 +4,7 @@ use mathlib.Core.Logic.{_≢_, _⊎_, _↔_}
 use mathlib.Core.List.{List, List·Memᴰ}
 use mathlib.Core.Option.{none, some, Option·map}
 use mathlib.Core.Bool.{true}
-use Prim.Native.Nat.{ℕ, _+_, _*_, _/_, _%_, _≤_, _<_}
+use Prim.Native.Nat.{ℕ, _+_, _*_, _%_, _≤_, _<_}
 use lib.ListN.{length}
 use Rattle.lists.specs.Place.{atPlace}
 use Rattle.sets.specs.Set.{member}
@@ -163,7 +163,7 @@ OncePerVisit =
 pub record StillLive (before after : Memory) (r : ℕ) : Type 0 where
   pub live : runWord before r 11 ≢ 0
   pub request : runWord after r 10 ≡ runWord before r 10
-  pub span : runWord after r 11 / 256 ≡ runWord before r 11 / 256
+  pub span : runWord after r 11 % 256 ≡ runWord before r 11 % 256
 
 unfoldable pub LiveByRecordOnly : Type 0
 LiveByRecordOnly =

@@ -38,7 +38,7 @@ pub record RowOf (m : Memory) (r i : ℕ) : Type 0 where
   pub is : nth (m .rows) r ≡ i
   pub only : (k : ℕ) → k < nth (m .numbers) 2 → nth (m .rows) k ≡ i → k ≡ r
 
--- word k of the twelve of row r: next number, how many wait, eight places, the live request, its span × 256 + age
+-- word k of the twelve of row r: next number, how many wait, eight places, the live request, (span − age) × 256 + span
 abbrev pub runWord : Memory → ℕ → ℕ → ℕ
 runWord m r k = nth (m .run) (12 * r + k)
 
@@ -47,11 +47,17 @@ waitingIn m r = runWord m r 1
 
 -- the target of the live transaction of row r
 unfoldable pub liveTargetIn : Memory → ℕ → Option ℕ
-liveTargetIn m r = cond (eqb (runWord m r 11) 0) none (some (runWord m r 10 % 256))
+liveTargetIn m r = cond (eqb (runWord m r 11) 0) none (some (runWord m r 10 / 65_536 % 64))
 
--- a request as memory has it in one word: target, kind, length, number, from the low end
+-- a request as memory has it in one word, the bytes of its record from the low end: its kind is the top bit of the first, the target is
+-- the third, the number the fifth and sixth, the length the last two, high byte first
 unfoldable pub requestIn : ℕ → state.Request
-requestIn word = record { target = word % 256; kind = word / 256 % 256; length = word / 65_536 % 65_536; number = word / 4_294_967_296 % 65_536 }
+requestIn word = record {
+  target = word / 65_536 % 64;
+  kind = word / 128 % 2;
+  length = word / 281_474_976_710_656 % 256 * 256 + word / 72_057_594_037_927_936 % 256;
+  number = word / 4_294_967_296 % 256 * 256 + word / 1_099_511_627_776 % 256;
+}
 
 -- path number k, eleven bytes: initiator, target, how many links, the links
 unfoldable pub linksIn : Memory → ℕ → List ℕ

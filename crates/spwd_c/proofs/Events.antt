@@ -19,14 +19,14 @@ use Rattle.spwd_c.specs.Exports.{TimeCodes, Requests, Replies, Readings}
 
 module _ {eight : List ℕ} (a : Answer) (told : eight ≡ listed (values a)) where
   module _ {five five′ : List ℕ} (w w′ : Watchdog) (before : w ≡ watchdogOf five) (after : five′ ≡ listedFive w′) where
-    pub time-codes : {rows spans aims numbers run last : List ℕ} {byte clock : ℕ} {records run′ last′ records′ : List ℕ}
-        → ((b : Box) → Finds b rows spans aims numbers run last → Does (step (length records) b w (TimeCode byte clock)) clock a w′ run′ last′ records records′)
-        → TimeCodes rows spans aims numbers run last five byte clock records run′ last′ five′ records′ eight
+    pub time-codes : {spans aims numbers run last : List ℕ} {byte clock : ℕ} {records run′ last′ records′ : List ℕ}
+        → ((b : Box) (rows : List ℕ) → Finds b rows spans aims numbers run last → Does (step (length records) b w (TimeCode byte clock)) clock a w′ run′ last′ records records′)
+        → TimeCodes spans aims numbers run last five byte clock records run′ last′ five′ records′ eight
     time-codes {records = records} {run′ = run′} {last′ = last′} does = record {
       steps = record {
         answer = a;
         numbers = told;
-        does = λ b f. by-time-code (length records) b (watchdogOf five) _ a run′ last′ records _ _ (watchdogOf five′) _ refl (rw (before, of-them w′ after) at (does b f));
+        does = λ rows b f. by-time-code (length records) b (watchdogOf five) _ a run′ last′ records _ _ (watchdogOf five′) _ refl (rw (before, of-them w′ after) at (does b rows f));
       };
       whole = are-five w′ after;
     }

@@ -42,10 +42,10 @@ pub record Answered (answer′ : List ℕ) (Does : Answer → Type 0) : Type 0 w
   pub numbers : answer′ ≡ listed (values answer)
   pub does : Does answer
 
--- `spwd_c_time_code`
-pub record TimeCodes (rows spans aims numbers run last five : List ℕ) (byte clock : ℕ) (records run′ last′ five′ records′ answer′ : List ℕ) : Type 0 where
+-- `spwd_c_time_code`. It is lent no rows: run memory has the initiators of what it tells.
+pub record TimeCodes (spans aims numbers run last five : List ℕ) (byte clock : ℕ) (records run′ last′ five′ records′ answer′ : List ℕ) : Type 0 where
   pub steps : Answered answer′ λ a.
-      Steps rows spans aims numbers run last (watchdogOf five) records (TimeCode byte clock) a run′ last′ (watchdogOf five′) records′
+      (rows : List ℕ) → Steps rows spans aims numbers run last (watchdogOf five) records (TimeCode byte clock) a run′ last′ (watchdogOf five′) records′
   pub whole : AreFive five′
 
 -- `spwd_c_request`. It is lent no last time-code, no five numbers and no record buffer: it is the step with any of these, and they stay.

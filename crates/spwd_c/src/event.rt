@@ -1,6 +1,7 @@
 // The four events, as C calls them. "A refusal leaves state, buffers and watchdog numbers untouched and answers its number, all else 0."
 ghost use Rattle.spwd_c.specs.Exports.{TimeCodes, Requests, Replies, Readings};
 use c_numbers::five::put_changed;
+use c_numbers::five::put_watchdog;
 use c_numbers::five::watchdog_of;
 use events::reading::reading;
 use events::values::values_of;
@@ -10,7 +11,6 @@ use timecodes::time::time_code;
 
 #[no_mangle]
 pub extern "C" fn spwd_c_time_code(
-    rows: &[u8; 8],
     spans: &[u8; 512],
     aims: &[u64; 512],
     numbers: &[u32; 6],
@@ -22,23 +22,12 @@ pub extern "C" fn spwd_c_time_code(
     records: &mut [u8],
     answer: &mut [u32; 8],
 )
-    ensures { λ _. ⌜ TimeCodes (now (rows .entry)) (now (spans .entry)) (now (aims .entry)) (now (numbers .entry)) (now (run .entry)) (now (last .entry)) (now (five .entry)) byte clock (now (records .entry))
+    ensures { λ _. ⌜ TimeCodes (now (spans .entry)) (now (aims .entry)) (now (numbers .entry)) (now (run .entry)) (now (last .entry)) (now (five .entry)) byte clock (now (records .entry))
         (now (run .exit)) (now (last .exit)) (now (five .exit)) (now (records .exit)) (now (answer .exit)) ⌝ }
 {
     let w = watchdog_of(five);
-    let done = time_code(
-        rows,
-        spans,
-        aims,
-        numbers,
-        run,
-        last,
-        w,
-        byte,
-        clock,
-        records,
-    );
-    put_changed(five, done.watchdog);
+    let done = time_code(spans, aims, numbers, run, last, w, byte, clock, records);
+    put_watchdog(five, done.watchdog);
     let answered = done.answer;
     *answer = values_of(answered);
 }

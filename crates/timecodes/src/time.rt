@@ -1,7 +1,7 @@
 // A time-code: the sequence rule, then the records in order, then the five numbers.
 ghost use mathlib.Core.Path.{_≡_};
-ghost use mathlib.Core.List.{[], _∷_, flatMap};
-ghost use Prim.Native.Nat.{_≤_};
+ghost use mathlib.Core.List.{List, [], _∷_, flatMap};
+ghost use Prim.Native.Nat.{ℕ, _≤_};
 ghost use lib.ListN.{length};
 ghost use Rattle.box_rules.specs.declared.Event.the-variants.{TimeCode};
 ghost use Rattle.lists.specs.Puts.{Puts};
@@ -26,7 +26,6 @@ use watchdog::watch::fed_with;
 // The records of an accepted time-code, and run memory after it. Answers where the records end. They are at most 17: in sequence one, and two for
 // each of eight initiators; out of it two, and one for each.
 fn run_on(
-    rows: &[u8; 8],
     spans: &[u8; 512],
     aims: &[u64; 512],
     numbers: &[u32; 6],
@@ -38,7 +37,7 @@ fn run_on(
     records: &mut [u8],
 ) -> usize
     requires { ⌜ 136 ≤ length (now records) ⌝ }
-    ensures { λ r. ⌜ ((b : Box) → Finds b (now (rows .entry)) (now (spans .entry)) (now (aims .entry)) (now (numbers .entry)) (now (run .entry)) (last ∷ []) →
+    ensures { λ r. ⌜ ((b : Box) (rows : List ℕ) → Finds b rows (now (spans .entry)) (now (aims .entry)) (now (numbers .entry)) (now (run .entry)) (last ∷ []) →
         (now (run .exit) ≡ runOf (thePlan b) (ticked b byte .side))
         × Puts (now (records .entry)) 0 (flatMap (recordBytes clock) (rules-records.records b w byte clock)) (now (records .exit)) r) ⌝ }
 {
@@ -46,15 +45,14 @@ fn run_on(
     let q = in_sequence(last, byte);
     let watched = put_watchdog(records, 0, w, clock, v);
     let sequenced = put_sequence(records, watched, q, v);
-    let late = report_late(rows, numbers, run, records, sequenced, v, q);
+    let late = report_late(numbers, run, records, sequenced, v, q);
     if q {
-        return visit_all(rows, spans, aims, numbers, run, records, late, v);
+        return visit_all(spans, aims, numbers, run, records, late, v);
     }
     late
 }
 
 pub fn time_code(
-    rows: &[u8; 8],
     spans: &[u8; 512],
     aims: &[u64; 512],
     numbers: &[u32; 6],
@@ -65,7 +63,7 @@ pub fn time_code(
     clock: u32,
     records: &mut [u8],
 ) -> Stepped
-    ensures { λ r. ⌜ ((b : Box) → Finds b (now (rows .entry)) (now (spans .entry)) (now (aims .entry)) (now (numbers .entry)) (now (run .entry)) (now (last .entry)) →
+    ensures { λ r. ⌜ ((b : Box) (rows : List ℕ) → Finds b rows (now (spans .entry)) (now (aims .entry)) (now (numbers .entry)) (now (run .entry)) (now (last .entry)) →
         Does (rules.step (length (now (records .entry))) b w (TimeCode byte clock)) clock (r .answer) (r .watchdog) (now (run .exit)) (now (last .exit)) (now (records .entry)) (now (records .exit))) ⌝ }
 {
     let number = refuse(numbers, byte, records.len());
@@ -75,18 +73,7 @@ pub fn time_code(
             watchdog: w,
         };
     }
-    let end = run_on(
-        rows,
-        spans,
-        aims,
-        numbers,
-        run,
-        last[0],
-        w,
-        byte,
-        clock,
-        records,
-    );
+    let end = run_on(spans, aims, numbers, run, last[0], w, byte, clock, records);
     last[0] = byte % 64 + 1;
     Stepped {
         answer: Answer::Recorded {

@@ -3,7 +3,7 @@ use mathlib.Core.Path.{_≡_, refl, sym, ap, _∙_}
 use mathlib.Core.List.{List}
 use mathlib.Core.Option.{Option, none, some}
 use mathlib.Core.Bool.{true, false}
-use Prim.Native.Nat.{ℕ, _+_, _*_, _≤_, _<_}
+use Prim.Native.Nat.{ℕ, _+_, _-_, _*_, _≤_, _<_}
 use native.Mathlib.Omega.{arith}
 use lib.ListN.{getD, set}
 use Rattle.lists.specs.Search.{isSome}
@@ -22,12 +22,12 @@ use Rattle.turns.specs.declared.Started.{Started}
 use Rattle.initiators.specs.laws.RowWords.{place-at, live-set}
 
 -- the answer and the row once a start has been made, or none
-abbrev pub Begins : Side → Option Start → Started → List ℕ → Type 0
-Begins s o r row = (r ≡ startedOf o) × (row ≡ rowOf (begun s o))
+abbrev pub Begins : ℕ → Side → Option Start → Started → List ℕ → Type 0
+Begins m s o r row = (r ≡ startedOf m o) × (row ≡ rowOf m (begun s o))
 
 -- the same once the entry has been visited
-abbrev pub Starts : Side → Plan → Entry → Started → List ℕ → Type 0
-Starts s p e r row = Begins s (starting p (some e) s) r row
+abbrev pub Starts : ℕ → Side → Plan → Entry → Started → List ℕ → Type 0
+Starts m s p e r row = Begins m s (starting p (some e) s) r row
 
 leaves-fit : (s : Side) (k : ℕ) → FitSide s → FitSide (leaves k s)
 unfolding leaves
@@ -39,20 +39,20 @@ leaves-fit s k f = record {
 }
 
 -- the request at place k leaves the line and is live
-pub begins-at : (s : Side) → FitSide s → (row : List ℕ) → row ≡ rowOf s → (k span : ℕ) (x : Start) → StartsAt k span s x
-    → (y : List ℕ) (t : ℕ) → y ≡ rowOf (leaves k s) → t ≡ span * 256 + 0
-    → Begins s (some x) (record { started = true; word = getD row (k + 2) 0 }) (set (set y 10 (getD row (k + 2) 0)) 11 t)
+pub begins-at : (m : ℕ) (s : Side) → FitSide s → (row : List ℕ) → row ≡ rowOf m s → (k span : ℕ) (x : Start) → StartsAt k span s x
+    → (y : List ℕ) (t : ℕ) → y ≡ rowOf m (leaves k s) → t ≡ (span - 0) * 256 + span
+    → Begins m s (some x) (record { started = true; word = getD row (k + 2) 0 }) (set (set y 10 (getD row (k + 2) 0)) 11 t)
 unfolding startedOf begun fresh rowOf leaves liveWord liveTime
-begins-at s f row is k span x a y t ey et =
-    let w = place-at s f row is k (x .found .what) (a .what) in
-    (rw w, live-set (leaves k s) (leaves-fit s k f) y ey (getD row (k + 2) 0) t ∙ rw (w, et, a .place, a .span))
+begins-at m s f row is k span x a y t ey et =
+    let w = place-at m s f row is k (x .found .what) (a .what) in
+    (rw w, live-set m (leaves k s) (leaves-fit s k f) y ey (getD row (k + 2) 0) t ∙ rw (w, et, a .place, a .span))
 
-module _ (s : Side) (f : FitSide s) (row : List ℕ) (is : row ≡ rowOf s) (p : Plan) (e : Entry) where
-  starts-none : starting p (some e) s ≡ none → Starts s p e (record { started = false; word = 0 }) row
+module _ (m : ℕ) (s : Side) (f : FitSide s) (row : List ℕ) (is : row ≡ rowOf m s) (p : Plan) (e : Entry) where
+  starts-none : starting p (some e) s ≡ none → Starts m s p e (record { started = false; word = 0 }) row
   unfolding startedOf begun
   starts-none h = (rw h, rw h is)
 
-  pub starts-live : isSome (s .live) ≡ true → Starts s p e (record { started = false; word = 0 }) row
+  pub starts-live : isSome (s .live) ≡ true → Starts m s p e (record { started = false; word = 0 }) row
   unfolding starting
   starts-live h = starts-none (rw (h, starting))
 
@@ -77,11 +77,11 @@ module _ (s : Side) (f : FitSide s) (row : List ℕ) (is : row ≡ rowOf s) (p :
     one-found h none q = let z : k ≡ 8 = at ∙ ap (placeOr 8) q in absurd (omega arith)
     one-found h (some g) q = (g, refl, at ∙ ap (placeOr 8) q)
 
-    pub starts-nothing : 8 ≤ k → Starts s p e (record { started = false; word = 0 }) row
+    pub starts-nothing : 8 ≤ k → Starts m s p e (record { started = false; word = 0 }) row
     unfolding startAt
     starts-nothing h = starts-none (sought ∙ ap (startAt e) (none-found h (first (allows p e) (s .line)) refl))
 
-    pub starts-one : k < 8 → (span : ℕ) → e .span ≡ span → (r : Started) (y : List ℕ) → ((x : Start) → StartsAt k span s x → Begins s (some x) r y) → Starts s p e r y
+    pub starts-one : k < 8 → (span : ℕ) → e .span ≡ span → (r : Started) (y : List ℕ) → ((x : Start) → StartsAt k span s x → Begins m s (some x) r y) → Starts m s p e r y
     unfolding startAt
     starts-one h span es r y does =
         let (g, q, z) = one-found h (first (allows p e) (s .line)) refl in

@@ -10,15 +10,15 @@ use Rattle.initiators.specs.Run.{wordOf}
 use Rattle.turns.specs.declared.Late.{Late}
 use Rattle.turns.specs.declared.Started.{Started}
 
--- the live transaction that is late, as its word
-unfoldable pub lateOf : Bool → Option Live → Late
-lateOf q none = record { late = false; word = 0 }
-lateOf q (some l) = cond (isLate q l) (record { late = true; word = wordOf (l .request) }) (record { late = false; word = 0 })
+-- the live transaction of initiator i that is late, as its word
+unfoldable pub lateOf : Bool → ℕ → Option Live → Late
+lateOf q i none = record { late = false; word = 0 }
+lateOf q i (some l) = cond (isLate q l) (record { late = true; word = wordOf i (l .request) }) (record { late = false; word = 0 })
 
--- the request that starts, as its word
-unfoldable pub startedOf : Option Start → Started
-startedOf none = record { started = false; word = 0 }
-startedOf (some x) = record { started = true; word = wordOf (x .found .what) }
+-- the request of initiator i that starts, as its word
+unfoldable pub startedOf : ℕ → Option Start → Started
+startedOf i none = record { started = false; word = 0 }
+startedOf i (some x) = record { started = true; word = wordOf i (x .found .what) }
 
 -- a start of the request at place k, at an entry of this span
 pub record StartsAt (k span′ : ℕ) (s : Side) (x : Start) : Type 0 where

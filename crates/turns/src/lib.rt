@@ -2,7 +2,8 @@
 // Each contract holds for every side that the row is of.
 ghost use mathlib.Core.Path.{_≡_};
 ghost use mathlib.Core.Option.{some};
-ghost use Prim.Native.Nat.{_<_};
+ghost use mathlib.Core.Bool.{false};
+ghost use Prim.Native.Nat.{ℕ, _≤_, _<_};
 ghost use lib.ListN.{getD};
 ghost use Rattle.plan_rules.specs.Plan.{Plan, Entry};
 ghost use Rattle.box_rules.specs.State.{Side, Live};
@@ -30,21 +31,18 @@ pub struct Started {
     pub word: u64,
 }
 
-// "out of sequence, every live one; else each one started span accepted time-codes ago"
+// "out of sequence, every live one; else each one started span accepted time-codes ago": one is left to it
 fn is_late(time: u64, in_sequence: bool) -> bool
+    ensures { λ r. ⌜ (r ≡ false → 512 ≤ time) ⌝ }
     ensures { λ r. ⌜ ((l : Live) → FitLive l → time ≡ liveTime (some l) → r ≡ isLate «in_sequence» l) ⌝ }
 {
-    if in_sequence {
-        time / 256 <= time % 256 + 1
-    } else {
-        true
-    }
+    if in_sequence { time < 512 } else { true }
 }
 
 // Lateness at a time-code: a late transaction ends, another is one time-code older.
 pub fn age_row(row: &mut [u64], in_sequence: bool) -> Late
     requires { ⌜ IsRow (now row) ⌝ }
-    ensures { λ r. ⌜ ((s : Side) → FitSide s → now (row .entry) ≡ rowOf s → (r ≡ lateOf «in_sequence» (s .live)) × (now (row .exit) ≡ rowOf (aged «in_sequence» s))) ⌝ }
+    ensures { λ r. ⌜ ((i : ℕ) (s : Side) → FitSide s → now (row .entry) ≡ rowOf i s → (r ≡ lateOf «in_sequence» i (s .live)) × (now (row .exit) ≡ rowOf i (aged «in_sequence» s))) ⌝ }
 {
     let word = row[10];
     let time = row[11];
@@ -61,7 +59,7 @@ pub fn age_row(row: &mut [u64], in_sequence: bool) -> Late
             word: word,
         };
     }
-    row[11] = std::num::wrapping_add_u64(time, 1);
+    row[11] = time - 256;
     Late {
         late: false,
         word: 0,
@@ -71,13 +69,14 @@ pub fn age_row(row: &mut [u64], in_sequence: bool) -> Late
 // The request at place k leaves the line and is live.
 fn begin_at(row: &mut [u64], k: usize, span: u8) -> Started
     requires { ⌜ IsRow (now row) × (k < 8) × (k < getD (now row) 1 0) ⌝ }
-    ensures { λ r. ⌜ ((s : Side) → FitSide s → now (row .entry) ≡ rowOf s → (x : Start) → StartsAt k span s x →
-        (r ≡ startedOf (some x)) × (now (row .exit) ≡ rowOf (begun s (some x)))) ⌝ }
+    ensures { λ r. ⌜ ((i : ℕ) (s : Side) → FitSide s → now (row .entry) ≡ rowOf i s → (x : Start) → StartsAt k span s x →
+        (r ≡ startedOf i (some x)) × (now (row .exit) ≡ rowOf i (begun s (some x)))) ⌝ }
 {
     let word = row[k + 2];
     take_row(row, k);
     row[10] = word;
-    row[11] = 256 * span as u64;
+    // All of its span is left to it: span × 256, and the span.
+    row[11] = 257 * span as u64;
     Started {
         started: true,
         word: word,
@@ -88,8 +87,8 @@ fn begin_at(row: &mut [u64], k: usize, span: u8) -> Started
 // Most often that is the oldest of all: tried by itself, it leaves the line with no test of its place.
 pub fn start_row(row: &mut [u64], targets: u64, span: u8) -> Started
     requires { ⌜ IsRow (now row) ⌝ }
-    ensures { λ r. ⌜ ((s : Side) → FitSide s → now (row .entry) ≡ rowOf s → (p : Plan) (e : Entry) → Tells targets span e →
-        (r ≡ startedOf (starting p (some e) s)) × (now (row .exit) ≡ rowOf (begun s (starting p (some e) s)))) ⌝ }
+    ensures { λ r. ⌜ ((i : ℕ) (s : Side) → FitSide s → now (row .entry) ≡ rowOf i s → (p : Plan) (e : Entry) → Tells targets span e →
+        (r ≡ startedOf i (starting p (some e) s)) × (now (row .exit) ≡ rowOf i (begun s (starting p (some e) s)))) ⌝ }
 {
     if has_live(row) {
         return Started {

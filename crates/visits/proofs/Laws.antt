@@ -32,28 +32,28 @@ module _ (clock i v : ℕ) (p : Plan) (e : Entry) (s : Side) (f : FitSide s) whe
 
   -- code that puts a record of a kind for the request of a word
   abbrev Shows : ℕ → ℕ → List ℕ → List ℕ → ℕ → ℕ → Type 0
-  Shows kind word before after j k = (x : Request) → FitRequest x → word ≡ wordOf x → Puts before j (recordBytes clock (full kind i v x)) after k
+  Shows kind word before after j k = (x : Request) → FitRequest x → word ≡ wordOf i x → Puts before j (recordBytes clock (full kind i v x)) after k
 
   -- still live: nothing starts
-  pub visit-live : (row : List ℕ) (word : ℕ) → row ≡ rowOf s → isSome (s .live) ≡ true → word ≡ liveWord (s .live) → (before after : List ℕ) (j k : ℕ) → Shows 6 word before after j k
-      → (row ≡ rowOf (begun s start)) × Puts before j shown after k
+  pub visit-live : (row : List ℕ) (word : ℕ) → row ≡ rowOf i s → isSome (s .live) ≡ true → word ≡ liveWord i (s .live) → (before after : List ℕ) (j k : ℕ) → Shows 6 word before after j k
+      → (row ≡ rowOf i (begun s start)) × Puts before j shown after k
   unfolding starting begun startRecord stillRecord liveWord
   visit-live row word is h w before after j k puts =
       let (l, z) = is-some (s .live) h in
-      (rw (h, starting) is, rw (h, starting, z) (puts-one clock (full 6 i v (l .request)) (puts (l .request) (f .live l z .request) (w ∙ ap liveWord z))))
+      (rw (h, starting) is, rw (h, starting, z) (puts-one clock (full 6 i v (l .request)) (puts (l .request) (f .live l z .request) (w ∙ ap (liveWord i) z))))
 
-  module _ (r : Started) (is : r ≡ startedOf start) where
+  module _ (r : Started) (is : r ≡ startedOf i start) where
     pub visit-start : r .started ≡ true → (before after : List ℕ) (j k : ℕ) → Shows 5 (r .word) before after j k → Puts before j shown after k
     unfolding startedOf started? startRecord stillRecord
     visit-start h before after j k puts = go start refl
       where
         go : (o : Option Start) → start ≡ o → Puts before j shown after k
-        go none g = not-both h (ap started? (is ∙ ap startedOf g))
+        go none g = not-both h (ap started? (is ∙ ap (startedOf i) g))
         go (some x) g =
             let z = starting-elim p (some e) s x g in
             let at = (first-some (allows p (x .entry)) (s .line) (x .found) (z .found)) .0 in
             let m = at-member (s .line) (x .found .place) (x .found .what) at in
-            rw (g, z .free) (puts-one clock (full 5 i v (x .found .what)) (puts (x .found .what) (f .line (x .found .what) m) (ap (λ (y : Started). y .word) (is ∙ ap startedOf g))))
+            rw (g, z .free) (puts-one clock (full 5 i v (x .found .what)) (puts (x .found .what) (f .line (x .found .what) m) (ap (λ (y : Started). y .word) (is ∙ ap (startedOf i) g))))
 
     pub visit-nothing : r .started ≡ false → isSome (s .live) ≡ false → (before : List ℕ) (j : ℕ) → Puts before j shown before j
     unfolding startedOf started? startRecord stillRecord flatMap
@@ -61,4 +61,4 @@ module _ (clock i v : ℕ) (p : Plan) (e : Entry) (s : Side) (f : FitSide s) whe
       where
         go : (o : Option Start) → start ≡ o → Puts before j shown before j
         go none g = rw (g, not-some (s .live) free) (puts-none before j)
-        go (some x) g = not-both (ap started? (is ∙ ap startedOf g)) h
+        go (some x) g = not-both (ap started? (is ∙ ap (startedOf i) g)) h

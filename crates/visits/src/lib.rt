@@ -8,7 +8,7 @@ ghost use Rattle.lists.specs.Puts.{Puts};
 ghost use Rattle.plan_rules.specs.Plan.{Plan, Entry};
 ghost use Rattle.plan_rules.specs.Meaning.{initiators, entryAt};
 ghost use Rattle.plan_rules.specs.laws.Sound.{Sound};
-ghost use Rattle.plan_memory.specs.Memory.{rowsOf, spansOf, aimsOf, numbersWith};
+ghost use Rattle.plan_memory.specs.Memory.{spansOf, aimsOf, numbersWith};
 ghost use Rattle.plan_view.specs.View.{Tells};
 ghost use Rattle.box_rules.specs.State.{Side};
 ghost use Rattle.box_rules.specs.Turn.{starting, begun};
@@ -25,28 +25,20 @@ use records::put_full;
 use turns::start_row;
 
 // The visit of one initiator's entry, which has these targets and this span.
-fn visit_row(
-    row: &mut [u64],
-    out: &mut [u8],
-    at: usize,
-    initiator: u8,
-    v: u8,
-    targets: u64,
-    span: u8,
-) -> usize
+fn visit_row(row: &mut [u64], out: &mut [u8], at: usize, v: u8, targets: u64, span: u8) -> usize
     requires { ⌜ IsRow (now row) × (at + 8 ≤ length (now out)) ⌝ }
-    ensures { λ r. ⌜ ((clock : ℕ) (s : Side) → FitSide s → now (row .entry) ≡ rowOf s → (p : Plan) (e : Entry) → Tells targets span e →
-        (now (row .exit) ≡ rowOf (begun s (starting p (some e) s)))
-        × Puts (now (out .entry)) at (flatMap (recordBytes clock) (startRecord initiator v (starting p (some e) s) ++ stillRecord (some e) initiator v (s .live))) (now (out .exit)) r) × (r ≤ at + 8) ⌝ }
+    ensures { λ r. ⌜ ((clock i : ℕ) (s : Side) → i < 256 → FitSide s → now (row .entry) ≡ rowOf i s → (p : Plan) (e : Entry) → Tells targets span e →
+        (now (row .exit) ≡ rowOf i (begun s (starting p (some e) s)))
+        × Puts (now (out .entry)) at (flatMap (recordBytes clock) (startRecord i v (starting p (some e) s) ++ stillRecord (some e) i v (s .live))) (now (out .exit)) r) × (r ≤ at + 8) ⌝ }
 {
     if has_live(row) {
         let live = live_word(row);
-        return put_full(out, at, 6, initiator, v, live);
+        return put_full(out, at, 6, v, live);
     }
     let start = start_row(row, targets, span);
     let word = start.word;
     if start.started {
-        return put_full(out, at, 5, initiator, v, word);
+        return put_full(out, at, 5, v, word);
     }
     at
 }
@@ -57,30 +49,20 @@ fn visit_at(
     row: usize,
     out: &mut [u8],
     at: usize,
-    initiator: u8,
     v: u8,
     targets: u64,
     span: u8,
 ) -> usize
     requires { ⌜ (length (now run) ≡ 96) × (row < 8) × (at + 8 ≤ length (now out)) ⌝ }
-    ensures { λ r. ⌜ ((clock : ℕ) (s : ℕ → Side) → ((k : ℕ) → FitSide (s k)) → now (run .entry) ≡ rowsWith s → (p : Plan) (e : Entry) → Tells targets span e →
-        (now (run .exit) ≡ rowsWith (changed row (begun (s row) (starting p (some e) (s row))) s))
-        × Puts (now (out .entry)) at (flatMap (recordBytes clock) (startRecord initiator v (starting p (some e) (s row)) ++ stillRecord (some e) initiator v ((s row) .live))) (now (out .exit)) r) × (r ≤ at + 8) ⌝ }
+    ensures { λ r. ⌜ ((clock : ℕ) (n : ℕ → ℕ) (s : ℕ → Side) → n row < 256 → ((k : ℕ) → FitSide (s k)) → now (run .entry) ≡ rowsWith n s → (p : Plan) (e : Entry) → Tells targets span e →
+        (now (run .exit) ≡ rowsWith n (changed row (begun (s row) (starting p (some e) (s row))) s))
+        × Puts (now (out .entry)) at (flatMap (recordBytes clock) (startRecord (n row) v (starting p (some e) (s row)) ++ stillRecord (some e) (n row) v ((s row) .live))) (now (out .exit)) r) × (r ≤ at + 8) ⌝ }
 {
-    visit_row(
-        &mut run[row * 12..row * 12 + 12],
-        out,
-        at,
-        initiator,
-        v,
-        targets,
-        span,
-    )
+    visit_row(&mut run[row * 12..row * 12 + 12], out, at, v, targets, span)
 }
 
 // The visit of every entry that stands at v.
 pub fn visit_all(
-    rows: &[u8; 8],
     spans: &[u8; 512],
     aims: &[u64; 512],
     numbers: &[u32; 6],
@@ -90,7 +72,7 @@ pub fn visit_all(
     v: u8,
 ) -> usize
     requires { ⌜ at + 64 ≤ length (now out) ⌝ }
-    ensures { λ r. ⌜ ((clock size : ℕ) (p : Plan) (side : ℕ → Side) → Sound p → now (rows .entry) ≡ rowsOf p → now (spans .entry) ≡ spansOf p → now (aims .entry) ≡ aimsOf p →
+    ensures { λ r. ⌜ ((clock size : ℕ) (p : Plan) (side : ℕ → Side) → Sound p → now (spans .entry) ≡ spansOf p → now (aims .entry) ≡ aimsOf p →
         now (numbers .entry) ≡ numbersWith size p → ((i : ℕ) → FitSide (side i)) → now (run .entry) ≡ runOf p side →
         (now (run .exit) ≡ runOf p (λ (i : ℕ). begun (side i) (starting p (entryAt (p .entries) i v) (side i))))
         × Puts (now (out .entry)) at (flatMap (recordBytes clock) (flatMap (λ (i : ℕ).
@@ -105,16 +87,7 @@ pub fn visit_all(
         }
         let span = span_at(spans, row, v);
         if span != 0 {
-            k = visit_at(
-                run,
-                row,
-                out,
-                k,
-                rows[row],
-                v,
-                targets_at(aims, row, v),
-                span,
-            );
+            k = visit_at(run, row, out, k, v, targets_at(aims, row, v), span);
         }
         row += 1;
     }

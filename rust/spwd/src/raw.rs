@@ -6,6 +6,7 @@
 
 use crate::plan::Plan;
 use crate::LINE_ROOM;
+use core::mem::MaybeUninit;
 
 type Sets = [u64; 3];
 type Ends = [u8; 128];
@@ -22,6 +23,8 @@ pub(crate) type Run = [u64; 96];
 pub(crate) type Last = [u8; 1];
 /// The watchdog's numbers: last clock, seen, reported, least, greatest.
 pub(crate) type Five = [u32; 5];
+/// Room for the numbers of an answer: every event stores all eight.
+type Answer = MaybeUninit<[u32; 8]>;
 
 extern "C" {
     fn spwd_c_clear(
@@ -54,7 +57,6 @@ extern "C" {
         verdict: &mut [u32; 5],
     );
     fn spwd_c_time_code(
-        rows: &Rows,
         spans: &Spans,
         aims: &Aims,
         numbers: &Numbers,
@@ -65,7 +67,7 @@ extern "C" {
         clock: u32,
         records: *mut u8,
         room: usize,
-        answer: &mut [u32; 8],
+        answer: &mut Answer,
     );
     fn spwd_c_request(
         rows: &Rows,
@@ -77,7 +79,7 @@ extern "C" {
         target: u8,
         kind: u8,
         length: u16,
-        answer: &mut [u32; 8],
+        answer: &mut Answer,
     );
     fn spwd_c_reply(
         rows: &Rows,
@@ -86,9 +88,9 @@ extern "C" {
         initiator: u8,
         number: u16,
         status: u8,
-        answer: &mut [u32; 8],
+        answer: &mut Answer,
     );
-    fn spwd_c_reading(numbers: &Numbers, five: &mut Five, clock: u32, answer: &mut [u32; 8]);
+    fn spwd_c_reading(numbers: &Numbers, five: &mut Five, clock: u32, answer: &mut Answer);
     fn spwd_c_write_out(
         sets: &Sets,
         ends: &Ends,
@@ -200,11 +202,11 @@ pub(crate) fn time_code(
     clock: u32,
     records: &mut [u8],
 ) -> [u32; 8] {
-    let mut answer = [0; 8];
+    let mut answer = Answer::uninit();
     // SAFETY: pointer and length are those of one slice that is lent to be written; the rest are numbers and references.
+    // The call stores the whole answer.
     unsafe {
         spwd_c_time_code(
-            &plan.rows,
             &plan.spans,
             &plan.aims,
             &plan.numbers,
@@ -216,9 +218,9 @@ pub(crate) fn time_code(
             records.as_mut_ptr(),
             records.len(),
             &mut answer,
-        )
+        );
+        answer.assume_init()
     }
-    answer
 }
 
 #[inline]
@@ -230,8 +232,8 @@ pub(crate) fn request(
     kind: u8,
     length: u16,
 ) -> [u32; 8] {
-    let mut answer = [0; 8];
-    // SAFETY: numbers, and references of the sizes that are declared.
+    let mut answer = Answer::uninit();
+    // SAFETY: numbers, and references of the sizes that are declared. The call stores the whole answer.
     unsafe {
         spwd_c_request(
             &plan.rows,
@@ -244,9 +246,9 @@ pub(crate) fn request(
             kind,
             length,
             &mut answer,
-        )
+        );
+        answer.assume_init()
     }
-    answer
 }
 
 #[inline]
@@ -257,8 +259,8 @@ pub(crate) fn reply(
     number: u16,
     status: u8,
 ) -> [u32; 8] {
-    let mut answer = [0; 8];
-    // SAFETY: numbers, and references of the sizes that are declared.
+    let mut answer = Answer::uninit();
+    // SAFETY: numbers, and references of the sizes that are declared. The call stores the whole answer.
     unsafe {
         spwd_c_reply(
             &plan.rows,
@@ -268,17 +270,19 @@ pub(crate) fn reply(
             number,
             status,
             &mut answer,
-        )
+        );
+        answer.assume_init()
     }
-    answer
 }
 
 #[inline]
 pub(crate) fn reading(plan: &Plan, five: &mut Five, clock: u32) -> [u32; 8] {
-    let mut answer = [0; 8];
-    // SAFETY: numbers, and references of the sizes that are declared.
-    unsafe { spwd_c_reading(&plan.numbers, five, clock, &mut answer) }
-    answer
+    let mut answer = Answer::uninit();
+    // SAFETY: numbers, and references of the sizes that are declared. The call stores the whole answer.
+    unsafe {
+        spwd_c_reading(&plan.numbers, five, clock, &mut answer);
+        answer.assume_init()
+    }
 }
 
 /// Number and size.

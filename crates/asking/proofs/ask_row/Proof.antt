@@ -16,7 +16,7 @@ same-length c = search needs
 returns : tie.Need-returns
 returns c =
     let a = c .before .before .before .before .args in
-    λ s f is. full s (a .row .now) (a .target) (a .kind) (a .length) is (omega (arith, c .before .waiting .ensures s f is))
+    λ s f is. full (a .initiator) s (a .row .now) (a .target) (a .kind) (a .length) is (omega (arith, c .before .waiting .ensures (a .initiator) s f is))
 
 join-row-requires : tie.Need-join-row-requires
 join-row-requires c κs = search needs
@@ -30,8 +30,8 @@ returns-2 c =
     let a = d .before .before .before .before .args in
     let j = c .before .before .join-row in
     λ s f is.
-    let short : length (s .line) < 8 = omega (arith, d .before .waiting .ensures s f is) in
-    joins s (j .last .0) (a .target) (a .kind) (a .length) short (j .result) (j .ensures s f is short)
+    let short : length (s .line) < 8 = omega (arith, d .before .waiting .ensures (a .initiator) s f is) in
+    joins (a .initiator) s (j .last .0) (a .target) (a .kind) (a .length) short (j .result) (j .ensures s f is short)
 
 pub ask-row-spec : {M : Type 1} → statement M
 ask-row-spec =

@@ -15,7 +15,7 @@ same-length c = search needs
 returns : tie.Need-returns
 returns c =
     let a = c .before .before .before .before .args in
-    λ s f is. nothing-live s (a .row .now) (a .number) (a .status) is (sym (c .before .has-live .ensures s f is) ∙ not-true _ (c .if1 .taken))
+    λ i s f is. nothing-live i s (a .row .now) (a .number) (a .status) is (sym (c .before .has-live .ensures i s f is) ∙ not-true _ (c .if1 .taken))
 
 live-number-requires : tie.Need-live-number-requires
 live-number-requires c κs = search needs
@@ -27,9 +27,9 @@ returns-2 : tie.Need-returns-2
 returns-2 c =
     let d = c .before .before .before in
     let a = d .before .before .before .before .args in
-    λ s f is.
-    another-live s (a .row .now) (a .number) (a .status) (sym (d .before .has-live .ensures s f is) ∙ not-false _ (d .if1 .left)) is
-    (λ z. c .if2 .taken (c .before .live-number .ensures s f is ∙ z))
+    λ i s f is.
+    another-live i s (a .row .now) (a .number) (a .status) (sym (d .before .has-live .ensures i s f is) ∙ not-false _ (d .if1 .left)) is
+    (λ z. c .if2 .taken (c .before .live-number .ensures i s f is ∙ z))
 
 live-target-requires : tie.Need-live-target-requires
 live-target-requires c κs = search needs
@@ -53,10 +53,10 @@ returns-3 c =
     let d = e .before .before .before in
     let a = d .before .before .before .before .args in
     let k = c .before .before .finish-row in
-    λ s f is.
-    finishes s (k .last .0) (a .number) (a .status) (sym (d .before .has-live .ensures s f is) ∙ not-false _ (d .if1 .left))
-    (sym (e .before .live-number .ensures s f is) ∙ e .if2 .left) (k .ensures s f is) _ _ _
-    (m .before .before .before .live-target .ensures s f is) (m .before .live-length .ensures s f is) (m .class-of .ensures)
+    λ i s f is.
+    finishes i s (k .last .0) (a .number) (a .status) (sym (d .before .has-live .ensures i s f is) ∙ not-false _ (d .if1 .left))
+    (sym (e .before .live-number .ensures i s f is) ∙ e .if2 .left) (k .ensures i s f is) _ _ _
+    (m .before .before .before .live-target .ensures i s f is) (m .before .live-length .ensures i s f is) (m .class-of .ensures)
 
 pub end-row-spec : {M : Type 1} → statement M
 end-row-spec =

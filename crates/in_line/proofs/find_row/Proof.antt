@@ -24,7 +24,7 @@ returns c =
     let s = c .before .before in
     let a = s .before .before .before .args in (
       λ h. absurd (omega arith),
-      seek-none (a .row .now) (a .targets) (a .span) (s .loop .i) (s .loop .inv .1) (λ w f is. omega (arith, count-at w f (a .row .now) is)),
+      seek-none (a .row .now) (a .targets) (a .span) (s .loop .i) (s .loop .inv .1) (λ n w f is. omega (arith, count-at n w f (a .row .now) is)),
     )
 
 add-permits-word : tie.Need-add-permits-word Inv-loop μ-loop
@@ -66,7 +66,7 @@ returns-3 c =
     let s = c .before in
     let a = s .before .before .before .args in (
       λ h. absurd (omega arith),
-      seek-none (a .row .now) (a .targets) (a .span) (s .loop .i) (s .loop .inv .1) (λ w f is. omega (arith, f .few)),
+      seek-none (a .row .now) (a .targets) (a .span) (s .loop .i) (s .loop .inv .1) (λ n w f is. omega (arith, f .few)),
     )
 
 pub find-row-spec : {M : Type 1} → statement M

@@ -16,7 +16,7 @@ cast-number : tie.Need-cast-number
 cast-number c = search needs
 
 returns : tie.Need-returns
-returns c = λ s f is room. absurd (omega (arith, count-at s f (c .before .before .before .before .args .row .now) is))
+returns c = λ s f is room. absurd (omega (arith, count-at (c .before .before .before .before .args .initiator) s f (c .before .before .before .before .args .row .now) is))
 
 word-of-requires : tie.Need-word-of-requires
 word-of-requires c κs = search needs
@@ -51,7 +51,7 @@ same-length c = search needs
 returns-2 : tie.Need-returns-2
 returns-2 c =
     let a = c .before .before .before .before .before .before .args in
-    λ s f is room. joins s f (a .row .now) is (a .target) (a .kind) (a .length) _ _ room (c .before .word-of .ensures) (c .next-number .ensures)
+    λ s f is room. joins (a .initiator) s f (a .row .now) is (a .target) (a .kind) (a .length) _ _ room (c .before .word-of .ensures) (c .next-number .ensures)
 
 pub join-row-spec : {M : Type 1} → statement M
 join-row-spec =

@@ -5,17 +5,21 @@ use borrow.Author.Needs.{needs}
 use Rattle.in_line.proofs.permits_word.Statement.{statement}
 use Rattle.in_line.proofs.permits_word.Tie as tie
 
-cast-permits : tie.Need-cast-permits
-cast-permits c = search needs
+target-in-requires : tie.Need-target-in-requires
+target-in-requires c κs = search needs
 
-cast-permits-2 : tie.Need-cast-permits-2
-cast-permits-2 c = search needs
+length-in-requires : tie.Need-length-in-requires
+length-in-requires c κs = search needs
 
 permits-requires : tie.Need-permits-requires
 permits-requires c κs = search needs
 
 returns : tie.Need-returns
-returns c p e r t f is = c .permits .ensures p e t ∙ allows-word p e r f (c .before .args .word) is
+returns c p e n r t f is =
+    let l = c .before .length-in in
+    let w = c .before .before .target-in in
+    c .permits .ensures p e t ∙ allows-word p e n r f (c .before .before .before .args .word) (w .result) (l .result) is (w .ensures) (l .ensures)
 
 pub permits-word-spec : {M : Type 1} → statement M
-permits-word-spec = tie.close (tie.spec cast-permits cast-permits-2 permits-requires returns)
+permits-word-spec =
+    tie.close (tie.spec target-in-requires length-in-requires permits-requires returns)

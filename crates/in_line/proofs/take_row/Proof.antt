@@ -32,7 +32,7 @@ returns : tie.Need-returns
 returns c =
     let a = c .before .before .before .before .before .before in
     let m = c .before .before .move-up in
-    λ s f is. left s f (a .args .row .now) is (a .args .k) (m .last .0) (a .pre .2) (m .ensures)
+    λ i s f is. left i s f (a .args .row .now) is (a .args .k) (m .last .0) (a .pre .2) (m .ensures)
 
 pub take-row-spec : {M : Type 1} → statement M
 take-row-spec =

@@ -9,7 +9,7 @@ use Rattle.box_rules.specs.laws.Fit.{FitSide}
 use Rattle.initiators.specs.Run.{liveWord, liveTime, rowOf}
 use Rattle.initiators.specs.laws.RowWords.{live-set}
 
-module _ (s : Side) (f : FitSide s) (row : List ℕ) (is : row ≡ rowOf s) where
-  pub finished : set (set row 10 0) 11 0 ≡ rowOf (finish s)
+module _ (i : ℕ) (s : Side) (f : FitSide s) (row : List ℕ) (is : row ≡ rowOf i s) where
+  pub finished : set (set row 10 0) 11 0 ≡ rowOf i (finish s)
   unfolding rowOf finish liveWord liveTime
-  finished = live-set s f row is 0 0
+  finished = live-set i s f row is 0 0

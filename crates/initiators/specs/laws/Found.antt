@@ -1,32 +1,27 @@
--- What an event finds in plan memory: whether there is a plan, and the row of an initiator, 8 where the plan has no such initiator.
-use mathlib.Core.Path.{_≡_, refl, sym}
+-- What an event finds in plan memory: the row of an initiator, 8 where the plan has no such initiator, and so whether there is a plan.
+use mathlib.Core.Path.{_≡_, refl}
 use mathlib.Core.List.{List}
-use mathlib.Core.Option.{Option, some}
+use mathlib.Core.Option.{Option, none, some}
 use mathlib.Core.Bool.{Bool, true, false}
 use Prim.Native.Nat.{ℕ, _≤_, _<_}
 use native.Mathlib.Omega.{arith}
-use Rattle.lists.specs.Search.{isSome}
+use Rattle.lists.specs.Search.{any, isSome}
 use Rattle.lists.specs.Place.{atPlace}
-use Rattle.plan_rules.specs.Plan.{Plan}
+use Rattle.lists.specs.laws.Bools.{not-both}
+use Rattle.plan_rules.specs.Plan.{Plan, blank}
 use Rattle.plan_rules.specs.Meaning.{isInitiator, initiators}
 use Rattle.plan_rules.specs.laws.Sound.{Sound}
 use Rattle.plan_memory.specs.Memory.{rowsOf, numbersWith, numbersOf}
-use Rattle.plan_view.specs.View.{Timed, rowFor}
+use Rattle.plan_view.specs.View.{rowFor}
 use Rattle.box_rules.specs.State.{Box, thePlan}
 use Rattle.initiators.specs.Memory.{Finds}
 use Rattle.plan_view.specs.laws.Rows.{row-for-place, row-for-some}
 
--- what memory tells: whether there is a plan, and the row of initiator i
-abbrev pub Loaded : List ℕ → Bool → Type 0
-Loaded numbers x = (o : Option Plan) → Timed o numbers → x ≡ isSome o
-
+-- what memory tells: the row of initiator i
 abbrev pub Rowed : List ℕ → List ℕ → ℕ → ℕ → Type 0
 Rowed rows numbers i row = (size : ℕ) (p : Plan) → Sound p → rows ≡ rowsOf p → numbers ≡ numbersWith size p → row ≡ rowFor p i
 
 module _ {b : Box} {rows spans aims numbers run last : List ℕ} (f : Finds b rows spans aims numbers run last) where
-  pub plan-told : (x : Bool) → Loaded numbers x → isSome (b .plan) ≡ x
-  plan-told x told = sym (told (b .plan) (f .plan .timed))
-
   module _ (i row : ℕ) (told : Rowed rows numbers i row) where
     here : row ≡ rowFor (thePlan b) i
     unfolding thePlan numbersOf
@@ -34,6 +29,15 @@ module _ {b : Box} {rows spans aims numbers run last : List ℕ} (f : Finds b ro
 
     pub is-initiator : row < 8 → isInitiator (thePlan b) i ≡ true
     is-initiator h = (row-for-some (thePlan b) (f .fit .sound) i) .0 (omega (arith, here))
+
+    -- without a plan there are no initiators, so whoever has a row has a plan
+    pub plan-by-row : row < 8 → isSome (b .plan) ≡ true
+    unfolding thePlan isInitiator blank any isSome
+    plan-by-row h = go (b .plan) refl
+      where
+        go : (o : Option Plan) → b .plan ≡ o → isSome o ≡ true
+        go none e = not-both (is-initiator h) (rw e)
+        go (some p) e = refl
 
     pub its-row : row < 8 → atPlace row (initiators (thePlan b)) ≡ some i
     its-row h = rw here (row-for-place (thePlan b) (f .fit .sound) i (is-initiator h))

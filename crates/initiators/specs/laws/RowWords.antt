@@ -15,20 +15,20 @@ use Rattle.lists.specs.Cells.{padded}
 use Rattle.lists.specs.laws.Lines.{map-at}
 use Rattle.box_rules.specs.State.{Request, Live, Side}
 use Rattle.box_rules.specs.laws.Fit.{FitSide, FitLive}
-use Rattle.initiators.specs.Run.{wordOf, liveWord, liveTime, rowOf}
+use Rattle.initiators.specs.Run.{swapped, wordOf, targetIn, numberIn, lengthIn, liveWord, liveTime, rowOf}
 use Rattle.initiators.specs.Row.{liveRequest}
 use Rattle.initiators.specs.laws.Words.{Apart, apart, eight, live-word-in, live-time-in}
 
-live-apart : (o : Option Live) → ((l : Live) → o ≡ some l → FitLive l) → Apart (liveWord o) (liveRequest o)
-unfolding liveWord liveRequest
-live-apart none f = record { target = refl; kind = refl; length = refl; number = refl }
-live-apart (some l) f = apart (l .request) (f l refl .request)
+live-apart : (i : ℕ) (o : Option Live) → ((l : Live) → o ≡ some l → FitLive l) → Apart (liveWord i o) (liveRequest o)
+unfolding liveWord liveRequest swapped targetIn numberIn lengthIn
+live-apart i none f = record { kind = refl; target = refl; number = refl; length = refl }
+live-apart i (some l) f = apart i (l .request) (f l refl .request)
 
 -- a live transaction's time is never 0
 live-told : (o : Option Live) → ((l : Live) → o ≡ some l → FitLive l) → not (eqb (liveTime o) 0) ≡ isSome o
 unfolding liveTime isSome
 live-told none f = refl
-live-told (some l) f = let g = f l refl in rw (ne-eqb (l .span * 256 + l .age) 0 (λ e. omega (arith, g .young)))
+live-told (some l) f = let g = f l refl in rw (ne-eqb ((l .span - l .age) * 256 + l .span) 0 (λ e. omega (arith, g .young)))
 
 -- two words at the end of eight
 pub time-stored : (q : List ℕ) (a b t : ℕ) → length q ≡ 8 → set (q ++ (a ∷ b ∷ [])) 9 t ≡ q ++ (a ∷ t ∷ [])
@@ -40,12 +40,12 @@ time-stored q a b t e =
 live-stored : (q : List ℕ) (a b w t : ℕ) → length q ≡ 8 → set (set (q ++ (a ∷ b ∷ [])) 8 w) 9 t ≡ q ++ (w ∷ t ∷ [])
 live-stored q a b w t e = ap (λ (l : List ℕ). set l 9 t) (set-at q a (b ∷ []) w 8 e) ∙ time-stored q w b t e
 
-module _ (s : Side) (f : FitSide s) (row : List ℕ) (is : row ≡ rowOf s) where
+module _ (i : ℕ) (s : Side) (f : FitSide s) (row : List ℕ) (is : row ≡ rowOf i s) where
   words : List ℕ
-  words = map wordOf (s .line)
+  words = map (wordOf i) (s .line)
 
   rest : List ℕ
-  rest = liveWord (s .live) ∷ liveTime (s .live) ∷ []
+  rest = liveWord i (s .live) ∷ liveTime (s .live) ∷ []
 
   -- each word of the row
   pub next-at : getD row 0 0 ≡ s .next
@@ -56,29 +56,29 @@ module _ (s : Side) (f : FitSide s) (row : List ℕ) (is : row ≡ rowOf s) wher
   unfolding rowOf
   count-at = ap (λ (l : List ℕ). getD l 1 0) is
 
-  pub place-at : (k : ℕ) (r : Request) → atPlace k (s .line) ≡ some r → getD row (k + 2) 0 ≡ wordOf r
+  pub place-at : (k : ℕ) (r : Request) → atPlace k (s .line) ≡ some r → getD row (k + 2) 0 ≡ wordOf i r
   unfolding rowOf padded words rest
   place-at k r h =
       let e : k + 2 ≡ suc (suc k) = omega arith in
-      ap₂ (λ (l : List ℕ) (i : ℕ). getD l i 0) is e
+      ap₂ (λ (l : List ℕ) (j : ℕ). getD l j 0) is e
       ∙ ap (λ (l : List ℕ). getD l k 0) (append-assoc words (replicate (8 - length words) 0) rest)
-      ∙ map-at wordOf 0 k (s .line) (replicate (8 - length words) 0 ++ rest) r h
+      ∙ map-at (wordOf i) 0 k (s .line) (replicate (8 - length words) 0 ++ rest) r h
 
-  pub live-word-at : getD row 10 0 ≡ liveWord (s .live)
-  live-word-at = ap (λ (l : List ℕ). getD l 10 0) is ∙ live-word-in s f
+  pub live-word-at : getD row 10 0 ≡ liveWord i (s .live)
+  live-word-at = ap (λ (l : List ℕ). getD l 10 0) is ∙ live-word-in i s f
 
   pub live-time-at : getD row 11 0 ≡ liveTime (s .live)
-  live-time-at = ap (λ (l : List ℕ). getD l 11 0) is ∙ live-time-in s f
+  live-time-at = ap (λ (l : List ℕ). getD l 11 0) is ∙ live-time-in i s f
 
   pub live-parts : Apart (getD row 10 0) (liveRequest (s .live))
-  live-parts = rw live-word-at (live-apart (s .live) (f .live))
+  live-parts = rw live-word-at (live-apart i (s .live) (f .live))
 
   pub live-is : not (eqb (getD row 11 0) 0) ≡ isSome (s .live)
   live-is = rw live-time-at (live-told (s .live) (f .live))
 
   -- what is live is another
-  pub live-set : (w t : ℕ) → set (set row 10 w) 11 t ≡ s .next ∷ length (s .line) ∷ padded 8 0 (map wordOf (s .line)) ++ (w ∷ t ∷ [])
+  pub live-set : (w t : ℕ) → set (set row 10 w) 11 t ≡ s .next ∷ length (s .line) ∷ padded 8 0 (map (wordOf i) (s .line)) ++ (w ∷ t ∷ [])
   unfolding rowOf words
   live-set w t =
       ap (λ (l : List ℕ). set (set l 10 w) 11 t) is
-      ∙ ap (λ (l : List ℕ). s .next ∷ length (s .line) ∷ l) (live-stored (padded 8 0 words) (liveWord (s .live)) (liveTime (s .live)) w t (eight s f))
+      ∙ ap (λ (l : List ℕ). s .next ∷ length (s .line) ∷ l) (live-stored (padded 8 0 words) (liveWord i (s .live)) (liveTime (s .live)) w t (eight i s f))

@@ -22,43 +22,43 @@ use Rattle.plan_rules.specs.Meaning.{initiators}
 use Rattle.plan_rules.specs.laws.Initiators.{initiators-once}
 use Rattle.box_rules.specs.State.{Side, idle}
 use Rattle.box_rules.specs.laws.Fit.{FitSide}
-use Rattle.initiators.specs.Run.{wordOf, liveWord, liveTime, rowOf, sideOf, changed, rowsWith, runOf}
+use Rattle.initiators.specs.Run.{wordOf, liveWord, liveTime, rowOf, initiatorOf, sideOf, changed, rowsWith, runOf}
 
-pub row-length : (s : Side) → FitSide s → length (rowOf s) ≡ 12
+pub row-length : (i : ℕ) (s : Side) → FitSide s → length (rowOf i s) ≡ 12
 unfolding rowOf
-row-length s f =
-    let a = length-append (padded 8 0 (map wordOf (s .line))) (liveWord (s .live) ∷ liveTime (s .live) ∷ []) in
-    omega (arith, a, length-padded 8 0 (map wordOf (s .line)) (omega (arith, f .few, length-map (s .line) wordOf)))
+row-length i s f =
+    let a = length-append (padded 8 0 (map (wordOf i) (s .line))) (liveWord i (s .live) ∷ liveTime (s .live) ∷ []) in
+    omega (arith, a, length-padded 8 0 (map (wordOf i) (s .line)) (omega (arith, f .few, length-map (s .line) (wordOf i))))
 
 -- eight rows
-module _ (s : ℕ → Side) (fit : (k : ℕ) → FitSide (s k)) where
-  wide : (k : ℕ) → length (rowOf (s k)) ≡ 12
-  wide k = row-length (s k) (fit k)
+module _ (n : ℕ → ℕ) (s : ℕ → Side) (fit : (k : ℕ) → FitSide (s k)) where
+  wide : (k : ℕ) → length (rowOf (n k) (s k)) ≡ 12
+  wide k = row-length (n k) (s k) (fit k)
 
-  pub run-part : (row : ℕ) → row < 8 → take 12 (drop (row * 12) (rowsWith s)) ≡ rowOf (s row)
+  pub run-part : (row : ℕ) → row < 8 → take 12 (drop (row * 12) (rowsWith n s)) ≡ rowOf (n row) (s row)
   unfolding rowsWith
-  run-part row h = block-part (λ r. rowOf (s r)) 12 wide 8 0 row h ∙ ap (λ k. rowOf (s k)) (zero-add row)
+  run-part row h = block-part (λ r. rowOf (n r) (s r)) 12 wide 8 0 row h ∙ ap (λ k. rowOf (n k) (s k)) (zero-add row)
 
-  pub run-put : (row : ℕ) → row < 8 → (x : Side) → take (row * 12) (rowsWith s) ++ (rowOf x ++ drop 12 (drop (row * 12) (rowsWith s))) ≡ rowsWith (changed row x s)
+  pub run-put : (row : ℕ) → row < 8 → (x : Side) → take (row * 12) (rowsWith n s) ++ (rowOf (n row) x ++ drop 12 (drop (row * 12) (rowsWith n s))) ≡ rowsWith n (changed row x s)
   unfolding rowsWith inPlace changed
   run-put row h x =
-      block-put (λ r. rowOf (s r)) 12 wide 8 0 row (rowOf x) h
-      ∙ ap (λ k. flatMap (inPlace (λ r. rowOf (s r)) 12 wide k (rowOf x)) (upFrom 8 0)) (zero-add row)
+      block-put (λ r. rowOf (n r) (s r)) 12 wide 8 0 row (rowOf (n row) x) h
+      ∙ ap (λ k. flatMap (inPlace (λ r. rowOf (n r) (s r)) 12 wide k (rowOf (n row) x)) (upFrom 8 0)) (zero-add row)
       ∙ flat-same _ _ (upFrom 8 0) (λ r m. one r (eqb r row) refl)
     where
-      one : (r : ℕ) (b : Bool) → eqb r row ≡ b → inPlace (λ k. rowOf (s k)) 12 wide row (rowOf x) r ≡ rowOf (changed row x s r)
-      one r true e = rw (e, inPlace, changed)
+      one : (r : ℕ) (b : Bool) → eqb r row ≡ b → inPlace (λ k. rowOf (n k) (s k)) 12 wide row (rowOf (n row) x) r ≡ rowOf (n r) (changed row x s r)
+      one r true e = rw (e, inPlace, changed, eqb-true r row e)
       one r false e = rw (e, inPlace, changed)
 
 -- one initiator's side changed: its row
 pub run-changed : (p : Plan) (side : ℕ → Side) (f : Side → Side) (i row : ℕ) → atPlace row (initiators p) ≡ some i
-    → runOf p (λ (j : ℕ). cond (eqb j i) (f (side j)) (side j)) ≡ rowsWith (changed row (f (side i)) (sideOf p side))
+    → runOf p (λ (j : ℕ). cond (eqb j i) (f (side j)) (side j)) ≡ rowsWith (initiatorOf p) (changed row (f (side i)) (sideOf p side))
 unfolding runOf sideOf changed
-run-changed p side f i row at = ap rowsWith (fun-ext (λ r. go r (atPlace r (initiators p)) refl))
+run-changed p side f i row at = ap (rowsWith (initiatorOf p)) (fun-ext (λ r. go r (atPlace r (initiators p)) refl))
   where
     same : (r j : ℕ) → atPlace r (initiators p) ≡ some j → (b : Bool) → eqb r row ≡ b → cond (eqb j i) (f (side j)) (side j) ≡ cond b (f (side i)) (side j)
     same r j e true h =
-        let k : j ≡ i = some-some (sym e ∙ ap (λ n. atPlace n (initiators p)) (eqb-true r row h) ∙ at) in
+        let k : j ≡ i = some-some (sym e ∙ ap (λ m. atPlace m (initiators p)) (eqb-true r row h) ∙ at) in
         rw (k, eq-eqb i i refl)
     same r j e false h =
         rw (ne-eqb j i (λ k. eqb-false r row h (place-once (initiators p) r row i (initiators-once p) (e ∙ ap some k) at)))

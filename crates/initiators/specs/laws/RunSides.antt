@@ -10,10 +10,11 @@ use borrow.Author.Tests.{eqb-true}
 use Rattle.lists.specs.Place.{atPlace}
 use Rattle.plan_rules.specs.Plan.{Plan}
 use Rattle.plan_rules.specs.Meaning.{initiators}
+use Rattle.plan_memory.specs.Memory.{ofRow}
 use Rattle.box_rules.specs.State.{Box, Side, idle, thePlan}
 use Rattle.box_rules.specs.Step.{withSide}
 use Rattle.box_rules.specs.laws.Fit.{FitSide, Fit, idle-fit}
-use Rattle.initiators.specs.Run.{rowOf, sideOf, changed, rowsWith, runOf, Runs}
+use Rattle.initiators.specs.Run.{rowOf, initiatorOf, sideOf, changed, rowsWith, runOf, Runs}
 use Rattle.initiators.specs.laws.RunRows.{run-part, run-put, run-changed}
 
 pub side-fit : (p : Plan) (side : ℕ → Side) → ((i : ℕ) → FitSide (side i)) → (r : ℕ) → FitSide (sideOf p side r)
@@ -27,14 +28,19 @@ side-fit p side f r = go (atPlace r (initiators p))
 pub sides-fit : (b : Box) → Fit b → (k : ℕ) → FitSide (sideOf (thePlan b) (b .side) k)
 sides-fit b fit k = side-fit (thePlan b) (b .side) (fit .sides) k
 
+-- the initiator of a row
+pub initiator-at : (p : Plan) (row i : ℕ) → atPlace row (initiators p) ≡ some i → initiatorOf p row ≡ i
+unfolding initiatorOf ofRow
+initiator-at p row i at = rw (at, initiatorOf, ofRow)
+
 pub side-at : (p : Plan) (side : ℕ → Side) (row i : ℕ) → atPlace row (initiators p) ≡ some i → sideOf p side row ≡ side i
 unfolding sideOf
 side-at p side row i at = rw (at, sideOf)
 
 -- a row put back as it was
-pub rows-kept : (s : ℕ → Side) (row : ℕ) → rowsWith (changed row (s row) s) ≡ rowsWith s
+pub rows-kept : (n : ℕ → ℕ) (s : ℕ → Side) (row : ℕ) → rowsWith n (changed row (s row) s) ≡ rowsWith n s
 unfolding changed
-rows-kept s row = ap rowsWith (fun-ext (λ r. go r (eqb r row) refl))
+rows-kept n s row = ap (rowsWith n) (fun-ext (λ r. go r (eqb r row) refl))
   where
     go : (r : ℕ) (b : Bool) → eqb r row ≡ b → cond b (s row) (s r) ≡ s r
     go r true e = ap s (sym (eqb-true r row e))
@@ -43,29 +49,32 @@ rows-kept s row = ap rowsWith (fun-ext (λ r. go r (eqb r row) refl))
 module _ (b : Box) (run last : List ℕ) (holds : Runs b run last) (i row : ℕ) (at : atPlace row (initiators (thePlan b)) ≡ some i) where
   -- what is told of the row's side, told of the initiator's
   pub on-side : {A : Type 0} (g : Side → A) (f : Side → Side) (r : A) (run′ : List ℕ) → Fit b
-      → ((s : ℕ → Side) → ((k : ℕ) → FitSide (s k)) → run ≡ rowsWith s → (r ≡ g (s row)) × (run′ ≡ rowsWith (changed row (f (s row)) s)))
-      → (r ≡ g (b .side i)) × (run′ ≡ rowsWith (changed row (f (b .side i)) (sideOf (thePlan b) (b .side))))
+      → ((s : ℕ → Side) → ((k : ℕ) → FitSide (s k)) → run ≡ rowsWith (initiatorOf (thePlan b)) s
+      → (r ≡ g (s row)) × (run′ ≡ rowsWith (initiatorOf (thePlan b)) (changed row (f (s row)) s)))
+      → (r ≡ g (b .side i)) × (run′ ≡ rowsWith (initiatorOf (thePlan b)) (changed row (f (b .side i)) (sideOf (thePlan b) (b .side))))
   unfolding runOf
   on-side g f r run′ fit told =
       let (a, e) = told (sideOf (thePlan b) (b .side)) (sides-fit b fit) (holds .run) in
       let z = side-at (thePlan b) (b .side) row i at in
-      (a ∙ ap g z, e ∙ ap (λ (x : Side). rowsWith (changed row (f x) (sideOf (thePlan b) (b .side)))) z)
+      (a ∙ ap g z, e ∙ ap (λ (x : Side). rowsWith (initiatorOf (thePlan b)) (changed row (f x) (sideOf (thePlan b) (b .side)))) z)
 
-  pub runs-kept : (run′ : List ℕ) → run′ ≡ rowsWith (changed row (b .side i) (sideOf (thePlan b) (b .side))) → Runs b run′ last
+  pub runs-kept : (run′ : List ℕ) → run′ ≡ rowsWith (initiatorOf (thePlan b)) (changed row (b .side i) (sideOf (thePlan b) (b .side))) → Runs b run′ last
   unfolding runOf
   runs-kept run′ e = record {
-    run = e ∙ ap (λ (x : Side). rowsWith (changed row x (sideOf (thePlan b) (b .side)))) (sym (side-at (thePlan b) (b .side) row i at)) ∙ rows-kept (sideOf (thePlan b) (b .side)) row;
+    run = e
+        ∙ ap (λ (x : Side). rowsWith (initiatorOf (thePlan b)) (changed row x (sideOf (thePlan b) (b .side)))) (sym (side-at (thePlan b) (b .side) row i at))
+        ∙ rows-kept (initiatorOf (thePlan b)) (sideOf (thePlan b) (b .side)) row;
     last = holds .last;
   }
 
-  pub runs-changed : (f : Side → Side) (run′ : List ℕ) → run′ ≡ rowsWith (changed row (f (b .side i)) (sideOf (thePlan b) (b .side))) → Runs (withSide b i f) run′ last
+  pub runs-changed : (f : Side → Side) (run′ : List ℕ) → run′ ≡ rowsWith (initiatorOf (thePlan b)) (changed row (f (b .side i)) (sideOf (thePlan b) (b .side))) → Runs (withSide b i f) run′ last
   unfolding withSide thePlan
   runs-changed f run′ e = record { run = e ∙ sym (run-changed (thePlan b) (b .side) f i row at); last = holds .last }
 
 -- one row lent, and put back with another side
-module _ (s : ℕ → Side) (fit : (k : ℕ) → FitSide (s k)) (run : List ℕ) (is : run ≡ rowsWith s) (row size : ℕ) (small : row < 8) (twelve : size ≡ 12) where
-  pub row-lent : take size (drop (row * 12) run) ≡ rowOf (s row)
-  row-lent = rw (is, twelve) (run-part s fit row small)
+module _ (n : ℕ → ℕ) (s : ℕ → Side) (fit : (k : ℕ) → FitSide (s k)) (run : List ℕ) (is : run ≡ rowsWith n s) (row size : ℕ) (small : row < 8) (twelve : size ≡ 12) where
+  pub row-lent : take size (drop (row * 12) run) ≡ rowOf (n row) (s row)
+  row-lent = rw (is, twelve) (run-part n s fit row small)
 
-  pub row-back : (x : Side) (part : List ℕ) → part ≡ rowOf x → take (row * 12) run ++ (part ++ drop size (drop (row * 12) run)) ≡ rowsWith (changed row x s)
-  row-back x part e = rw (is, twelve, e) (run-put s fit row small x)
+  pub row-back : (x : Side) (part : List ℕ) → part ≡ rowOf (n row) x → take (row * 12) run ++ (part ++ drop size (drop (row * 12) run)) ≡ rowsWith n (changed row x s)
+  row-back x part e = rw (is, twelve, e) (run-put n s fit row small x)

@@ -20,7 +20,7 @@ use Rattle.plan_rules.specs.Plan.{Plan}
 use Rattle.plan_rules.specs.Meaning.{initiators}
 use Rattle.box_rules.specs.State.{Side, idle}
 use Rattle.box_rules.specs.laws.Fit.{FitSide}
-use Rattle.initiators.specs.Run.{sideOf, changed, rowsWith, runOf}
+use Rattle.initiators.specs.Run.{initiatorOf, sideOf, changed, rowsWith, runOf}
 use Rattle.initiators.specs.laws.RunSides.{side-fit, side-at}
 
 no-side : (p : Plan) (side : ℕ → Side) (r : ℕ) → length (initiators p) ≤ r → sideOf p side r ≡ idle
@@ -67,26 +67,26 @@ module _ (p : Plan) (old new : ℕ → Side) where
 
   -- the sweep's invariant
   pub record Sweep (part : ℕ → List ℕ) (before : List ℕ) (i : ℕ) (run′ after : List ℕ) (j k : ℕ) : Type 0 where
-    pub run : run′ ≡ rowsWith (swept k)
+    pub run : run′ ≡ rowsWith (initiatorOf p) (swept k)
     pub puts : Puts before i (flatMap part (take k (initiators p))) after j
 
   pub sweep-begin : (part : ℕ → List ℕ) (before : List ℕ) (i : ℕ) (run : List ℕ) → run ≡ runOf p old → Sweep part before i run before i 0
   unfolding runOf flatMap
-  sweep-begin part before i run h = record { run = h ∙ ap rowsWith (fun-ext (λ r. sym (swept-none r))); puts = puts-none before i }
+  sweep-begin part before i run h = record { run = h ∙ ap (rowsWith (initiatorOf p)) (fun-ext (λ r. sym (swept-none r))); puts = puts-none before i }
 
   module _ {part : ℕ → List ℕ} {before : List ℕ} {i : ℕ} {run after : List ℕ} {j k : ℕ} (a : Sweep part before i run after j k) where
     -- f is what becomes of the side of row k, and g what is put
     pub sweep-next : k < length (initiators p) → (f : Side → Side) (g : Side → List ℕ) → let x = getD (initiators p) k 0 in f (old x) ≡ new x → g (old x) ≡ part x
-        → (run′ after′ : List ℕ) (j′ : ℕ) → run′ ≡ rowsWith (changed k (f (swept k k)) (swept k)) → Puts after j (g (swept k k)) after′ j′ → Sweep part before i run′ after′ j′ (k + 1)
+        → (run′ after′ : List ℕ) (j′ : ℕ) → run′ ≡ rowsWith (initiatorOf p) (changed k (f (swept k k)) (swept k)) → Puts after j (g (swept k k)) after′ j′ → Sweep part before i run′ after′ j′ (k + 1)
     sweep-next h f g ef eg run′ after′ j′ er ps =
         let x = getD (initiators p) k 0 in
         let at = place-at (initiators p) k 0 h in
         let here = swept-here k x at in
         record {
-          run = er ∙ ap (λ (y : Side). rowsWith (changed k y (swept k))) (ap f here ∙ ef) ∙ ap rowsWith (fun-ext (swept-next k x at));
+          run = er ∙ ap (λ (y : Side). rowsWith (initiatorOf p) (changed k y (swept k))) (ap f here ∙ ef) ∙ ap (rowsWith (initiatorOf p)) (fun-ext (swept-next k x at));
           puts = rw (flat-more part (initiators p) k 0 h) (puts-then (a .puts) (rw (here, eg) at ps));
         }
 
     pub sweep-done : length (initiators p) ≤ k → (run ≡ runOf p new) × Puts before i (flatMap part (initiators p)) after j
     unfolding runOf
-    sweep-done h = (a .run ∙ ap rowsWith (fun-ext (swept-all k h)), rw (take-all k (initiators p) h) at (a .puts))
+    sweep-done h = (a .run ∙ ap (rowsWith (initiatorOf p)) (fun-ext (swept-all k h)), rw (take-all k (initiators p) h) at (a .puts))

@@ -12,10 +12,10 @@ use Rattle.late.proofs.report_late.Statement.{statement}
 use Rattle.late.proofs.report_late.Tie as tie
 
 abbrev Inv-loop : tie.InvT-loop
-Inv-loop rows numbers run₀ out₀ at v in-sequence count k₀ row₀ run out k row = (row ≤ 8) × (length out ≡ length out₀) × (k ≤ at + 8 * row) × LateSwept rows numbers run₀ v in-sequence out₀ at run out k row
+Inv-loop numbers run₀ out₀ at v in-sequence count k₀ row₀ run out k row = (row ≤ 8) × (length out ≡ length out₀) × (k ≤ at + 8 * row) × LateSwept numbers run₀ v in-sequence out₀ at run out k row
 
 abbrev μ-loop : tie.MeasureT-loop
-μ-loop rows numbers run₀ out₀ at v in-sequence count k₀ row₀ run out k row = 8 - row
+μ-loop numbers run₀ out₀ at v in-sequence count k₀ row₀ run out k row = 8 - row
 
 count-of-requires : tie.Need-count-of-requires Inv-loop μ-loop
 count-of-requires c κs = search needs
@@ -34,9 +34,6 @@ returns c =
     let a = l .before .before .before .args in
     (late-done (a .v) (a .in-sequence) (l .loop .inv .3) (λ x. omega (arith, l .before .count-of .ensures (x .size) (x .plan) (x .sound) (x .numbers))), search needs)
 
-element-copy-out-late-at : tie.Need-element-copy-out-late-at Inv-loop μ-loop
-element-copy-out-late-at c = search needs
-
 late-at-requires : tie.Need-late-at-requires Inv-loop μ-loop
 late-at-requires c κs = search needs
 
@@ -49,7 +46,7 @@ loop-less c = search needs
 loop-again : tie.Need-loop-again Inv-loop μ-loop
 loop-again c =
     let m = c .before .before .late-at in
-    let d = c .before .before .before .before .before .before in
+    let d = c .before .before .before .before .before in
     let l = d .before .before in
     let a = l .before .before .before .args in
     (omega arith, search needs, search needs, late-next (a .v) (a .in-sequence) (l .loop .inv .3) (l .before .count-of .result) (l .before .count-of .ensures) (d .if1 .left) (m .last .0) (m .last .1 .1 .0) (m .result) (m .ensures .0))
@@ -73,7 +70,6 @@ report-late-spec =
     loop-holds
     same-length
     returns
-    element-copy-out-late-at
     late-at-requires
     add-row
     loop-less

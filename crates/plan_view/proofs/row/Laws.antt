@@ -18,7 +18,7 @@ use Rattle.items.specs.laws.Rows.{isRow, row-place, row-none}
 use Rattle.plan_view.specs.View.{rowFor}
 use Rattle.plan_view.specs.laws.Rows.{row-for-at, row-for-none}
 
-counted : (size : ℕ) (p : Plan) (numbers : List ℕ) → numbers ≡ numbersWith size p → nth numbers 2 ≡ length (initiators p)
+pub counted : (size : ℕ) (p : Plan) (numbers : List ℕ) → numbers ≡ numbersWith size p → nth numbers 2 ≡ length (initiators p)
 unfolding numbersWith
 counted size p numbers is = rw is
 

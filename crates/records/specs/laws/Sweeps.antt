@@ -1,29 +1,31 @@
 -- The two sweeps of a time-code over the initiators: what memory holds, and where the sweep stands.
-use mathlib.Core.Path.{_≡_, ap, _∙_}
+use mathlib.Core.Path.{_≡_}
 use mathlib.Core.List.{List, flatMap}
 use Prim.Native.Nat.{ℕ, _≤_, _<_}
+use native.Mathlib.Omega.{arith}
 use lib.ListN.{length, getD}
 use Rattle.lists.specs.Puts.{Puts}
-use Rattle.lists.specs.laws.At.{padded-at}
+use Rattle.lists.specs.laws.At.{at-member, place-at}
 use Rattle.lists.specs.laws.Flat.{flat-flat}
 use Rattle.plan_rules.specs.Plan.{Plan}
 use Rattle.plan_rules.specs.Meaning.{initiators}
 use Rattle.plan_rules.specs.laws.Sound.{Sound}
-use Rattle.plan_memory.specs.Memory.{rowsOf, numbersWith}
+use Rattle.plan_rules.specs.laws.Initiators.{initiator-in}
+use Rattle.plan_memory.specs.Memory.{numbersWith}
 use Rattle.box_rules.specs.State.{Side}
 use Rattle.box_rules.specs.Records.{Record, recordBytes}
 use Rattle.box_rules.specs.laws.Fit.{FitSide}
-use Rattle.initiators.specs.Run.{runOf}
+use Rattle.initiators.specs.Run.{initiatorOf, runOf}
+use Rattle.initiators.specs.laws.RunSides.{initiator-at}
 use Rattle.initiators.specs.laws.Sweeps.{Sweep, sweep-begin, sweep-done}
 
 -- a plan and its sides in memory, and a clock
-pub record Held (rows′ numbers′ run′ : List ℕ) : Type 0 where
+pub record Held (numbers′ run′ : List ℕ) : Type 0 where
   pub clock : ℕ
   pub size : ℕ
   pub plan : Plan
   pub side : ℕ → Side
   pub sound : Sound plan
-  pub rows : rows′ ≡ rowsOf plan
   pub numbers : numbers′ ≡ numbersWith size plan
   pub fit : (i : ℕ) → FitSide (side i)
   pub run : run′ ≡ runOf plan side
@@ -32,7 +34,7 @@ pub record Held (rows′ numbers′ run′ : List ℕ) : Type 0 where
 abbrev pub Counted : List ℕ → ℕ → Type 0
 Counted numbers count = (size : ℕ) (p : Plan) → Sound p → numbers ≡ numbersWith size p → count ≡ length (initiators p)
 
-module _ {rows numbers run₀ : List ℕ} (x : Held rows numbers run₀) where
+module _ {numbers run₀ : List ℕ} (x : Held numbers run₀) where
   -- the first k initiators have their new sides, and their records are put
   abbrev pub Swept : (ℕ → Side) → (ℕ → List Record) → List ℕ → ℕ → List ℕ → List ℕ → ℕ → ℕ → Type 0
   Swept new part before i run after j k = Sweep (x .plan) (x .side) new (λ (n : ℕ). flatMap (recordBytes (x .clock)) (part n)) before i run after j k
@@ -41,9 +43,15 @@ module _ {rows numbers run₀ : List ℕ} (x : Held rows numbers run₀) where
   abbrev pub Done : (ℕ → Side) → (ℕ → List Record) → List ℕ → ℕ → List ℕ → List ℕ → ℕ → Type 0
   Done new part before i run after j = (run ≡ runOf (x .plan) new) × Puts before i (flatMap (recordBytes (x .clock)) (flatMap part (initiators (x .plan)))) after j
 
-  pub row-initiator : (k : ℕ) → k < length (initiators (x .plan)) → getD rows k 0 ≡ getD (initiators (x .plan)) k 0
-  unfolding rowsOf
-  row-initiator k h = ap (λ (l : List ℕ). getD l k 0) (x .rows) ∙ padded-at 8 0 (initiators (x .plan)) k 0 h
+  -- the initiator of a row, and that it is a byte
+  pub row-initiator : (k : ℕ) → k < length (initiators (x .plan)) → initiatorOf (x .plan) k ≡ getD (initiators (x .plan)) k 0
+  row-initiator k h = initiator-at (x .plan) k (getD (initiators (x .plan)) k 0) (place-at (initiators (x .plan)) k 0 h)
+
+  pub initiator-small : (k : ℕ) → k < length (initiators (x .plan)) → initiatorOf (x .plan) k < 256
+  initiator-small k h =
+      let i = getD (initiators (x .plan)) k 0 in
+      let s : i < 64 = x .sound .small i (initiator-in (x .plan) i (at-member (initiators (x .plan)) k 0 h)) in
+      omega (arith, row-initiator k h, s)
 
   module _ (new : ℕ → Side) (part : ℕ → List Record) where
     pub swept-begin : (before : List ℕ) (i : ℕ) → Swept new part before i run₀ before i 0

@@ -1,16 +1,17 @@
 -- A reply, row by row of the refusals; of an initiator, what is told of its row.
-use mathlib.Core.Path.{_≡_, refl, _∙_}
+use mathlib.Core.Path.{_≡_, refl}
 use mathlib.Core.List.{List}
-use mathlib.Core.Option.{some}
+use mathlib.Core.Option.{Option, some}
 use mathlib.Core.Bool.{Bool, true, false, not, cond}
 use Prim.Native.Nat.{ℕ, _≤_, _<_}
 use Rattle.lists.specs.Search.{isSome}
 use Rattle.lists.specs.Rows.{firstOf}
 use Rattle.lists.specs.Place.{atPlace}
+use Rattle.plan_rules.specs.Plan.{Plan}
 use Rattle.plan_rules.specs.Meaning.{initiators}
+use Rattle.plan_view.specs.View.{Timed}
 use Rattle.box_rules.specs.declared.Event.the-variants.{Reply}
 use Rattle.box_rules.specs.declared.Answer.{Answer}
-use Rattle.box_rules.specs.declared.Answer.the-variants.{Refused}
 use Rattle.box_rules.specs.declared.Watchdog.{Watchdog}
 use Rattle.box_rules.specs.State.{Box, Side, noPlan, thePlan}
 use Rattle.box_rules.specs.Turn.{finish}
@@ -18,12 +19,14 @@ use Rattle.box_rules.specs.Refuse.{refusal, refusals, isLiveNumber}
 use Rattle.box_rules.specs.Step.{step, accepts}
 use Rattle.box_rules.specs.laws.Steps.{step-accepted}
 use Rattle.box_rules.specs.laws.Fit.{FitSide}
-use Rattle.initiators.specs.Run.{sideOf, changed, rowsWith}
+use Rattle.initiators.specs.Run.{initiatorOf, sideOf, changed, rowsWith}
 use Rattle.initiators.specs.laws.RunSides.{on-side, runs-kept, runs-changed}
 use Rattle.ending.specs.Sides.{repliedAnswer, repliedSide}
 use Rattle.initiators.specs.Memory.{Finds, Answers}
-use Rattle.initiators.specs.laws.Found.{Loaded, Rowed, plan-told, is-initiator, its-row, no-initiator}
+use Rattle.initiators.specs.laws.Found.{Rowed, plan-by-row, is-initiator, its-row, no-initiator}
 use Rattle.initiators.specs.laws.Refused.{refuses}
+use Rattle.requests.specs.NoRow.{noRow}
+use Rattle.requests.proofs.no_row.Strangers.{refused-strange}
 use Rattle.ending.specs.laws.Live.{no-number}
 
 module _
@@ -33,49 +36,48 @@ module _
     (room : ℕ)
     (w : Watchdog)
     (i m status : ℕ)
-    (x : Bool)
-    (told : Loaded numbers x)
+    (row : ℕ)
+    (rowed : Rowed rows numbers i row)
   where
     abbrev Gives : Answer → List ℕ → Type 0
     Gives r run′ = Answers (step room b w (Reply i m status)) r run′ last
 
-    pub no-plan : x ≡ false → Gives (Refused 20) run
+    pub stranger : 8 ≤ row → (r : Answer) → ((o : Option Plan) → Timed o numbers → r ≡ noRow o) → Gives r run
     unfolding refusal refusals firstOf noPlan
-    no-plan h = refuses room b w (Reply i m status) 20 refl (rw (plan-told f x told, h)) run last (f .runs)
+    stranger h = refused-strange f room w (Reply i m status) by
+      where
+        by : (x : Bool) → isSome (b .plan) ≡ x → refusal room b (Reply i m status) ≡ cond x 22 20
+        by true e = rw (e, no-initiator f i row rowed h)
+        by false e = rw e
 
-    module _ (loaded : x ≡ true) (row : ℕ) (rowed : Rowed rows numbers i row) where
+    module _ (low : row < 8) where
       there : isSome (b .plan) ≡ true
-      there = plan-told f x told ∙ loaded
+      there = plan-by-row f i row rowed low
 
-      pub stranger : 8 ≤ row → Gives (Refused 22) run
+      last-rows : refusal room b (Reply i m status) ≡ cond (not (isSome ((b .side i) .live))) 27 (cond (not (isLiveNumber m ((b .side i) .live))) 28 0)
       unfolding refusal refusals firstOf noPlan
-      stranger h = refuses room b w (Reply i m status) 22 refl (rw (there, no-initiator f i row rowed h)) run last (f .runs)
+      last-rows = rw (there, is-initiator f i row rowed low)
 
-      module _ (low : row < 8) where
-        last-rows : refusal room b (Reply i m status) ≡ cond (not (isSome ((b .side i) .live))) 27 (cond (not (isLiveNumber m ((b .side i) .live))) 28 0)
-        unfolding refusal refusals firstOf noPlan
-        last-rows = rw (there, is-initiator f i row rowed low)
+      at : atPlace row (initiators (thePlan b)) ≡ some i
+      at = its-row f i row rowed low
 
-        at : atPlace row (initiators (thePlan b)) ≡ some i
-        at = its-row f i row rowed low
-
-        pub ends : (r : Answer) (run′ : List ℕ)
-            → ((s : ℕ → Side) → ((k : ℕ) → FitSide (s k)) → run ≡ rowsWith s → (r ≡ repliedAnswer m status (s row)) × (run′ ≡ rowsWith (changed row (repliedSide m (s row)) s)))
-            → Gives r run′
-        unfolding repliedAnswer repliedSide accepts
-        ends r run′ does =
-            go (isSome ((b .side i) .live)) refl (isLiveNumber m ((b .side i) .live)) refl
-            (on-side b run last (f .runs) i row at (repliedAnswer m status) (repliedSide m) r run′ (f .fit) does)
-          where
-            go : (y : Bool) → isSome ((b .side i) .live) ≡ y → (z : Bool) → isLiveNumber m ((b .side i) .live) ≡ z
-                → (r ≡ repliedAnswer m status (b .side i)) × (run′ ≡ rowsWith (changed row (repliedSide m (b .side i)) (sideOf (thePlan b) (b .side)))) → Gives r run′
-            go false e z d h =
-                let (a, n) = rw (e, repliedAnswer, no-number m ((b .side i) .live) e, repliedSide) at h in
-                rw a (refuses room b w (Reply i m status) 27 refl (rw (last-rows, e)) run′ last (runs-kept b run last (f .runs) i row at run′ n))
-            go true e false d h =
-                let (a, n) = rw (e, d, repliedAnswer, repliedSide) at h in
-                rw a (refuses room b w (Reply i m status) 28 refl (rw (last-rows, e, d)) run′ last (runs-kept b run last (f .runs) i row at run′ n))
-            go true e true d h =
-                let (a, n) = rw (e, d, repliedAnswer, repliedSide) at h in
-                rw (step-accepted room b w (Reply i m status) (rw (last-rows, e, d)), a)
-                (record { answer = refl; runs = runs-changed b run last (f .runs) i row at finish run′ n })
+      pub ends : (r : Answer) (run′ : List ℕ)
+          → ((n : ℕ → ℕ) (s : ℕ → Side) → ((k : ℕ) → FitSide (s k)) → run ≡ rowsWith n s → (r ≡ repliedAnswer m status (s row)) × (run′ ≡ rowsWith n (changed row (repliedSide m (s row)) s)))
+          → Gives r run′
+      unfolding repliedAnswer repliedSide accepts
+      ends r run′ does =
+          go (isSome ((b .side i) .live)) refl (isLiveNumber m ((b .side i) .live)) refl
+          (on-side b run last (f .runs) i row at (repliedAnswer m status) (repliedSide m) r run′ (f .fit) (does (initiatorOf (thePlan b))))
+        where
+          go : (y : Bool) → isSome ((b .side i) .live) ≡ y → (z : Bool) → isLiveNumber m ((b .side i) .live) ≡ z
+              → (r ≡ repliedAnswer m status (b .side i)) × (run′ ≡ rowsWith (initiatorOf (thePlan b)) (changed row (repliedSide m (b .side i)) (sideOf (thePlan b) (b .side)))) → Gives r run′
+          go false e z d h =
+              let (a, n) = rw (e, repliedAnswer, no-number m ((b .side i) .live) e, repliedSide) at h in
+              rw a (refuses room b w (Reply i m status) 27 refl (rw (last-rows, e)) run′ last (runs-kept b run last (f .runs) i row at run′ n))
+          go true e false d h =
+              let (a, n) = rw (e, d, repliedAnswer, repliedSide) at h in
+              rw a (refuses room b w (Reply i m status) 28 refl (rw (last-rows, e, d)) run′ last (runs-kept b run last (f .runs) i row at run′ n))
+          go true e true d h =
+              let (a, n) = rw (e, d, repliedAnswer, repliedSide) at h in
+              rw (step-accepted room b w (Reply i m status) (rw (last-rows, e, d)), a)
+              (record { answer = refl; runs = runs-changed b run last (f .runs) i row at finish run′ n })

@@ -1,14 +1,16 @@
 -- A request, row by row of the refusals; where the plan permits it, what is told of its initiator's row.
-use mathlib.Core.Path.{_≡_, refl, sym, _∙_}
+use mathlib.Core.Path.{_≡_, refl, sym}
 use mathlib.Core.List.{List}
-use mathlib.Core.Option.{some}
+use mathlib.Core.Option.{Option, some}
 use mathlib.Core.Bool.{Bool, true, false, cond}
 use Prim.Native.Nat.{ℕ, _≤_, _<_}
 use borrow.Author.Tests.{lt-ltb, le-ltb}
 use Rattle.lists.specs.Search.{isSome}
 use Rattle.lists.specs.Rows.{firstOf}
 use Rattle.lists.specs.Place.{atPlace}
+use Rattle.plan_rules.specs.Plan.{Plan}
 use Rattle.plan_rules.specs.Meaning.{isInitiator, initiators}
+use Rattle.plan_view.specs.View.{Timed}
 use Rattle.box_rules.specs.declared.Event.the-variants.{Request}
 use Rattle.box_rules.specs.declared.Answer.{Answer}
 use Rattle.box_rules.specs.declared.Answer.the-variants.{Refused}
@@ -19,12 +21,14 @@ use Rattle.box_rules.specs.Refuse.{refusal, refusals, mayStart}
 use Rattle.box_rules.specs.Step.{step, accepts}
 use Rattle.box_rules.specs.laws.Fit.{FitSide}
 use Rattle.box_rules.specs.laws.Steps.{step-accepted}
-use Rattle.initiators.specs.Run.{sideOf, changed, rowsWith}
-use Rattle.initiators.specs.laws.RunSides.{on-side, runs-kept, runs-changed}
+use Rattle.initiators.specs.Run.{initiatorOf, sideOf, changed, rowsWith}
+use Rattle.initiators.specs.laws.RunSides.{initiator-at, on-side, runs-kept, runs-changed}
 use Rattle.asking.specs.Sides.{isFull, askedAnswer, askedSide}
 use Rattle.initiators.specs.Memory.{Finds, Answers}
-use Rattle.initiators.specs.laws.Found.{Loaded, Rowed, plan-told, is-initiator, its-row, no-initiator}
+use Rattle.initiators.specs.laws.Found.{Rowed, plan-by-row, is-initiator, its-row, no-initiator}
 use Rattle.initiators.specs.laws.Refused.{refuses}
+use Rattle.requests.specs.NoRow.{noRow}
+use Rattle.requests.proofs.no_row.Strangers.{refused-strange}
 use Rattle.asking.specs.Sides.{Tried}
 
 module _
@@ -34,66 +38,67 @@ module _
     (room : ℕ)
     (w : Watchdog)
     (i t k n : ℕ)
-    (x : Bool)
-    (told : Loaded numbers x)
+    (row : ℕ)
+    (rowed : Rowed rows numbers i row)
   where
     abbrev Gives : Answer → List ℕ → Type 0
     Gives r run′ = Answers (step room b w (Request i t k n)) r run′ last
 
-    pub no-plan : x ≡ false → Gives (Refused 20) run
+    pub stranger : 8 ≤ row → (r : Answer) → ((o : Option Plan) → Timed o numbers → r ≡ noRow o) → Gives r run
     unfolding refusal refusals firstOf noPlan
-    no-plan h = refuses room b w (Request i t k n) 20 refl (rw (plan-told f x told, h)) run last (f .runs)
+    stranger h = refused-strange f room w (Request i t k n) by
+      where
+        by : (x : Bool) → isSome (b .plan) ≡ x → refusal room b (Request i t k n) ≡ cond x 22 20
+        by true e = rw (e, no-initiator f i row rowed h)
+        by false e = rw e
 
-    module _ (loaded : x ≡ true) (row : ℕ) (rowed : Rowed rows numbers i row) where
+    module _ (low : row < 8) where
       there : isSome (b .plan) ≡ true
-      there = plan-told f x told ∙ loaded
+      there = plan-by-row f i row rowed low
 
-      pub stranger : 8 ≤ row → Gives (Refused 22) run
+      own : isInitiator (thePlan b) i ≡ true
+      own = is-initiator f i row rowed low
+
+      at : atPlace row (initiators (thePlan b)) ≡ some i
+      at = its-row f i row rowed low
+
+      pub other-kind : 1 < k → Gives (Refused 23) run
       unfolding refusal refusals firstOf noPlan
-      stranger h = refuses room b w (Request i t k n) 22 refl (rw (there, no-initiator f i row rowed h)) run last (f .runs)
+      other-kind h = refuses room b w (Request i t k n) 23 refl (rw (there, own, lt-ltb 1 k h)) run last (f .runs)
 
-      module _ (low : row < 8) where
-        own : isInitiator (thePlan b) i ≡ true
-        own = is-initiator f i row rowed low
-
-        at : atPlace row (initiators (thePlan b)) ≡ some i
-        at = its-row f i row rowed low
-
-        pub other-kind : 1 < k → Gives (Refused 23) run
+      module _ (kind : k ≤ 1) where
+        pub too-long : 4096 < n → Gives (Refused 24) run
         unfolding refusal refusals firstOf noPlan
-        other-kind h = refuses room b w (Request i t k n) 23 refl (rw (there, own, lt-ltb 1 k h)) run last (f .runs)
+        too-long h = refuses room b w (Request i t k n) 24 refl (rw (there, own, le-ltb 1 k kind, lt-ltb 4096 n h)) run last (f .runs)
 
-        module _ (kind : k ≤ 1) where
-          pub too-long : 4096 < n → Gives (Refused 24) run
+        module _ (short : n ≤ 4096) (y : Bool) (tried : Tried spans aims row t n y) where
+          may : mayStart (thePlan b) ((thePlan b) .entries) i t n ≡ y
+          unfolding thePlan
+          may = sym (tried (thePlan b) i (f .plan .sound) (f .plan .spans) (f .plan .aims) at)
+
+          pub barred : y ≡ false → Gives (Refused 25) run
           unfolding refusal refusals firstOf noPlan
-          too-long h = refuses room b w (Request i t k n) 24 refl (rw (there, own, le-ltb 1 k kind, lt-ltb 4096 n h)) run last (f .runs)
+          barred h = refuses room b w (Request i t k n) 25 refl (rw (there, own, le-ltb 1 k kind, le-ltb 4096 n short, may, h)) run last (f .runs)
 
-          module _ (short : n ≤ 4096) (y : Bool) (tried : Tried spans aims row t n y) where
-            may : mayStart (thePlan b) ((thePlan b) .entries) i t n ≡ y
-            unfolding thePlan
-            may = sym (tried (thePlan b) i (f .plan .sound) (f .plan .spans) (f .plan .aims) at)
+          module _ (permitted : y ≡ true) where
+            last-row : (z : Bool) → isFull (b .side i) ≡ z → refusal room b (Request i t k n) ≡ cond z 26 0
+            unfolding refusal refusals firstOf noPlan isFull
+            last-row z h = rw (there, own, le-ltb 1 k kind, le-ltb 4096 n short, may, permitted, h)
 
-            pub barred : y ≡ false → Gives (Refused 25) run
-            unfolding refusal refusals firstOf noPlan
-            barred h = refuses room b w (Request i t k n) 25 refl (rw (there, own, le-ltb 1 k kind, le-ltb 4096 n short, may, h)) run last (f .runs)
-
-            module _ (permitted : y ≡ true) where
-              last-row : (z : Bool) → isFull (b .side i) ≡ z → refusal room b (Request i t k n) ≡ cond z 26 0
-              unfolding refusal refusals firstOf noPlan isFull
-              last-row z h = rw (there, own, le-ltb 1 k kind, le-ltb 4096 n short, may, permitted, h)
-
-              pub asks : (r : Answer) (run′ : List ℕ)
-                  → ((s : ℕ → Side) → ((j : ℕ) → FitSide (s j)) → run ≡ rowsWith s → (r ≡ askedAnswer (s row)) × (run′ ≡ rowsWith (changed row (askedSide t k n (s row)) s)))
-                  → Gives r run′
-              unfolding askedAnswer askedSide accepts
-              asks r run′ does = go (isFull (b .side i)) refl (on-side b run last (f .runs) i row at askedAnswer (askedSide t k n) r run′ (f .fit) does)
-                where
-                  go : (z : Bool) → isFull (b .side i) ≡ z
-                      → (r ≡ askedAnswer (b .side i)) × (run′ ≡ rowsWith (changed row (askedSide t k n (b .side i)) (sideOf (thePlan b) (b .side)))) → Gives r run′
-                  go true e h =
-                      let (a, m) = rw (e, askedAnswer, askedSide) at h in
-                      rw a (refuses room b w (Request i t k n) 26 refl (last-row true e) run′ last (runs-kept b run last (f .runs) i row at run′ m))
-                  go false e h =
-                      let (a, m) = rw (e, askedAnswer, askedSide) at h in
-                      rw (step-accepted room b w (Request i t k n) (last-row false e), a)
-                      (record { answer = refl; runs = runs-changed b run last (f .runs) i row at (join t k n) run′ m })
+            pub asks : (r : Answer) (run′ : List ℕ)
+                → ((m : ℕ → ℕ) (s : ℕ → Side) → m row ≡ i → ((j : ℕ) → FitSide (s j)) → run ≡ rowsWith m s → (r ≡ askedAnswer (s row)) × (run′ ≡ rowsWith m (changed row (askedSide t k n (s row)) s)))
+                → Gives r run′
+            unfolding askedAnswer askedSide accepts
+            asks r run′ does =
+                go (isFull (b .side i)) refl
+                (on-side b run last (f .runs) i row at askedAnswer (askedSide t k n) r run′ (f .fit) (λ s. does (initiatorOf (thePlan b)) s (initiator-at (thePlan b) row i at)))
+              where
+                go : (z : Bool) → isFull (b .side i) ≡ z
+                    → (r ≡ askedAnswer (b .side i)) × (run′ ≡ rowsWith (initiatorOf (thePlan b)) (changed row (askedSide t k n (b .side i)) (sideOf (thePlan b) (b .side)))) → Gives r run′
+                go true e h =
+                    let (a, m) = rw (e, askedAnswer, askedSide) at h in
+                    rw a (refuses room b w (Request i t k n) 26 refl (last-row true e) run′ last (runs-kept b run last (f .runs) i row at run′ m))
+                go false e h =
+                    let (a, m) = rw (e, askedAnswer, askedSide) at h in
+                    rw (step-accepted room b w (Request i t k n) (last-row false e), a)
+                    (record { answer = refl; runs = runs-changed b run last (f .runs) i row at (join t k n) run′ m })

@@ -11,7 +11,7 @@ use Rattle.lists.specs.Puts.{Puts}
 use Rattle.lists.specs.laws.Rows.{rise, no-row}
 use Rattle.lists.specs.laws.Stores.{put-front}
 use Rattle.plan_rules.specs.Canon.{written}
-use Rattle.plan_memory.specs.Memory.{rowsOf, spansOf, aimsOf, numbersWith, numbersOf}
+use Rattle.plan_memory.specs.Memory.{spansOf, aimsOf, numbersWith, numbersOf}
 use Rattle.box_rules.specs.declared.Event.the-variants.{TimeCode}
 use Rattle.box_rules.specs.declared.Answer.the-variants.{Refused, Recorded}
 use Rattle.box_rules.specs.declared.Watchdog.{Watchdog}
@@ -26,10 +26,6 @@ use Rattle.initiators.specs.Run.{lastOf, runOf}
 use Rattle.initiators.specs.Memory.{Finds, Does}
 
 module _ {b : Box} {rows spans aims numbers run last : List ℕ} (f : Finds b rows spans aims numbers run last) where
-  pub rows-held : rows ≡ rowsOf (thePlan b)
-  unfolding thePlan
-  rows-held = f .plan .rows
-
   pub spans-held : spans ≡ spansOf (thePlan b)
   unfolding thePlan
   spans-held = f .plan .spans

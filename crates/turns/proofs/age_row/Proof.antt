@@ -1,4 +1,6 @@
 -- `age_row` meets its contract: nothing is live, or what is live is late, or it is not. Assumes nothing.
+use mathlib.Core.Path.{refl}
+use native.Mathlib.Omega.{arith}
 use Rattle.turns.proofs.Ages.{ages-none, ages-late, ages-young}
 use borrow.Author.Needs.{needs}
 use Rattle.turns.proofs.age_row.Statement.{statement}
@@ -11,7 +13,7 @@ slice-read-time : tie.Need-slice-read-time
 slice-read-time c = search needs
 
 returns : tie.Need-returns
-returns c = let a = c .before .before .before .before .args in λ s f is. ages-none s f (a .row .now) is (a .in-sequence) (c .if1 .taken)
+returns c = let a = c .before .before .before .before .args in λ i s f is. ages-none i s f (a .row .now) is (a .in-sequence) (c .if1 .taken)
 
 is-late-requires : tie.Need-is-late-requires
 is-late-requires c κs = search needs
@@ -28,10 +30,10 @@ returns-2 c =
     let d = c .before .before .before .before in
     let l = d .before .is-late in
     let a = d .before .before .before .before .before .before .args in
-    λ s f is. ages-late s f (a .row .now) is (a .in-sequence) (l .result) (d .before .before .if1 .left) (l .ensures) (d .if2 .taken) (m .last .0) (m .ensures s f is)
+    λ i s f is. ages-late i s f (a .row .now) is (a .in-sequence) (l .result) (d .before .before .if1 .left) (l .ensures .1) (d .if2 .taken) (m .last .0) (m .ensures i s f is)
 
-wrapping-add-u64-requires : tie.Need-wrapping-add-u64-requires
-wrapping-add-u64-requires c κs = search needs
+sub-row : tie.Need-sub-row
+sub-row c = omega (arith, c .before .is-late .ensures .0 (c .if2 .left))
 
 slice-write-row : tie.Need-slice-write-row
 slice-write-row c = search needs
@@ -41,11 +43,9 @@ same-length-2 c = search needs
 
 returns-3 : tie.Need-returns-3
 returns-3 c =
-    let w = c .wrapping-add-u64 in
-    let d = c .before in
-    let l = d .before .is-late in
-    let a = d .before .before .before .before .before .before .args in
-    λ s f is. ages-young s f (a .row .now) is (a .in-sequence) (l .result) (d .before .before .if1 .left) (l .ensures) (d .if2 .left) (w .result) (w .ensures)
+    let l = c .before .is-late in
+    let a = c .before .before .before .before .before .before .args in
+    λ i s f is. ages-young i s f (a .row .now) is (a .in-sequence) (l .result) (c .before .before .if1 .left) (l .ensures .1) (c .if2 .left) _ refl
 
 pub age-row-spec : {M : Type 1} → statement M
 age-row-spec =
@@ -58,7 +58,7 @@ age-row-spec =
     finish-row-requires
     same-length
     returns-2
-    wrapping-add-u64-requires
+    sub-row
     slice-write-row
     same-length-2
     returns-3)

@@ -33,7 +33,7 @@ returns : tie.Need-returns
 returns c =
     let a = c .before .before .before .before .before .before .args in
     let m = c .before .before .take-row in
-    λ s f is x at. begins-at s f (a .row .now) is (a .k) (a .span) x at (m .last .0) _ (m .ensures s f is) (omega arith)
+    λ i s f is x at. begins-at i s f (a .row .now) is (a .k) (a .span) x at (m .last .0) _ (m .ensures i s f is) (omega arith)
 
 pub begin-at-spec : {M : Type 1} → statement M
 begin-at-spec =

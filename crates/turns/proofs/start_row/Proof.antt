@@ -16,7 +16,7 @@ same-length c = search needs
 returns : tie.Need-returns
 returns c =
     let a = c .before .before .before .before .args in
-    λ s f is p e t. starts-live s f (a .row .now) is p e (sym (c .before .has-live .ensures s f is) ∙ c .if1 .taken)
+    λ i s f is p e t. starts-live i s f (a .row .now) is p e (sym (c .before .has-live .ensures i s f is) ∙ c .if1 .taken)
 
 permits-oldest-requires : tie.Need-permits-oldest-requires
 permits-oldest-requires c κs = search needs
@@ -33,9 +33,9 @@ returns-2 c =
     let d = c .before .before .before .before .before .before .before in
     let a = d .before .before .before .before .args in
     let b = c .before .before .begin-at in
-    λ s f is p e t. starts-one s f (a .row .now) is p e (sym (d .before .has-live .ensures s f is) ∙ d .if1 .left) 0
-    (sym (eqb-true _ 0 (sym (r .ensures .1 s f is p e t) ∙ c .before .before .before .before .if2 .taken))) (omega arith)
-    (a .span) (t .span) (b .result) (b .last .0) (b .ensures s f is)
+    λ i s f is p e t. starts-one i s f (a .row .now) is p e (sym (d .before .has-live .ensures i s f is) ∙ d .if1 .left) 0
+    (sym (eqb-true _ 0 (sym (r .ensures .1 i s f is p e t) ∙ c .before .before .before .before .if2 .taken))) (omega arith)
+    (a .span) (t .span) (b .result) (b .last .0) (b .ensures i s f is)
 
 find-row-requires : tie.Need-find-row-requires
 find-row-requires c κs = search needs
@@ -48,7 +48,7 @@ returns-3 c =
     let d = c .before .before .before .before .before .before in
     let r = c .before .find-row in
     let a = d .before .before .before .before .args in
-    λ s f is p e t. starts-nothing s f (a .row .now) is p e (sym (d .before .has-live .ensures s f is) ∙ d .if1 .left) (r .result) (r .ensures .1 s f is p e t) (c .if3 .taken)
+    λ i s f is p e t. starts-nothing i s f (a .row .now) is p e (sym (d .before .has-live .ensures i s f is) ∙ d .if1 .left) (r .result) (r .ensures .1 i s f is p e t) (c .if3 .taken)
 
 begin-at-requires-2 : tie.Need-begin-at-requires-2
 begin-at-requires-2 c κs = (search needs, omega arith, c .before .before .find-row .ensures .0 (omega arith))
@@ -62,8 +62,8 @@ returns-4 c =
     let d = c .before .before .before .before .before .before .before .before .before .before in
     let a = d .before .before .before .before .args in
     let b = c .before .before .begin-at2 in
-    λ s f is p e t. starts-one s f (a .row .now) is p e (sym (d .before .has-live .ensures s f is) ∙ d .if1 .left) (r .result) (r .ensures .1 s f is p e t) (omega arith)
-    (a .span) (t .span) (b .result) (b .last .0) (b .ensures s f is)
+    λ i s f is p e t. starts-one i s f (a .row .now) is p e (sym (d .before .has-live .ensures i s f is) ∙ d .if1 .left) (r .result) (r .ensures .1 i s f is p e t) (omega arith)
+    (a .span) (t .span) (b .result) (b .last .0) (b .ensures i s f is)
 
 pub start-row-spec : {M : Type 1} → statement M
 start-row-spec =

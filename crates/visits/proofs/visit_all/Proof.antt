@@ -10,10 +10,10 @@ use Rattle.visits.proofs.visit_all.Statement.{statement}
 use Rattle.visits.proofs.visit_all.Tie as tie
 
 abbrev Inv-loop : tie.InvT-loop
-Inv-loop rows spans aims numbers run₀ out₀ at v count k₀ row₀ run out k row = (row ≤ 8) × VisitStands rows spans aims numbers run₀ v out₀ at run out k row
+Inv-loop spans aims numbers run₀ out₀ at v count k₀ row₀ run out k row = (row ≤ 8) × VisitStands spans aims numbers run₀ v out₀ at run out k row
 
 abbrev μ-loop : tie.MeasureT-loop
-μ-loop rows spans aims numbers run₀ out₀ at v count k₀ row₀ run out k row = 8 - row
+μ-loop spans aims numbers run₀ out₀ at v count k₀ row₀ run out k row = 8 - row
 
 count-of-requires : tie.Need-count-of-requires Inv-loop μ-loop
 count-of-requires c κs = search needs
@@ -33,9 +33,6 @@ returns c =
 
 span-at-requires : tie.Need-span-at-requires Inv-loop μ-loop
 span-at-requires c κs = search needs
-
-element-copy-out-visit-at : tie.Need-element-copy-out-visit-at Inv-loop μ-loop
-element-copy-out-visit-at c = search needs
 
 targets-at-requires : tie.Need-targets-at-requires Inv-loop μ-loop
 targets-at-requires c κs = search needs
@@ -58,9 +55,9 @@ loop-again c =
     let n = l .before .count-of in (
       omega arith,
       ⊎-elim
-          {C = VisitStands (a .rows .now) (a .spans .now) (a .aims .now) (a .numbers .now) (a .run .now) (a .v) (a .out .now) (a .at) (c .if2 .run) (c .if2 .out) (c .if2 .k) (l .loop .row + 1)}
-          (λ w. visit-one (a .v) (l .loop .inv .1) (n .result) (n .ensures) (d .if1 .left) (s .result) (s .ensures) (w .0 .taken) (w .4 .result) (w .4 .ensures) (w .5 .last .0) (w .5 .last .1 .1 .0) (w .5 .result) (w .5 .ensures .0)
-          (w .5 .kept .1 .1 .0) (w .5 .ensures .1) (c .if2 .run) (c .if2 .out) (c .if2 .k) (w .8) (w .9) (w .10))
+          {C = VisitStands (a .spans .now) (a .aims .now) (a .numbers .now) (a .run .now) (a .v) (a .out .now) (a .at) (c .if2 .run) (c .if2 .out) (c .if2 .k) (l .loop .row + 1)}
+          (λ w. visit-one (a .v) (l .loop .inv .1) (n .result) (n .ensures) (d .if1 .left) (s .result) (s .ensures) (w .0 .taken) (w .3 .result) (w .3 .ensures) (w .4 .last .0) (w .4 .last .1 .1 .0) (w .4 .result) (w .4 .ensures .0)
+          (w .4 .kept .1 .1 .0) (w .4 .ensures .1) (c .if2 .run) (c .if2 .out) (c .if2 .k) (w .7) (w .8) (w .9))
           (λ w. visit-no-one (a .v) (l .loop .inv .1) (n .result) (n .ensures) (d .if1 .left) (s .result) (s .ensures) (w .0 .left) (c .if2 .run) (c .if2 .out) (c .if2 .k) (w .1) (w .2) (w .3))
           (c .if2 .came),
     )
@@ -84,7 +81,6 @@ visit-all-spec =
     same-length
     returns
     span-at-requires
-    element-copy-out-visit-at
     targets-at-requires
     visit-at-requires
     add-row

@@ -44,9 +44,9 @@ returns c =
     let a = c .before .before .before .before .before .before .before .before .before .args in
     let h = c .before .before .before .before .before .before .before .before .before .pre .1 in
     let size = a .row * 12 + 12 - a .row * 12 in (
-      λ clock s fit is p e t.
-          let z = m .ensures .0 clock (s (a .row)) (fit (a .row)) (row-lent s fit (a .run .now) is (a .row) size h (omega arith)) p e t in
-          (row-back s fit (a .run .now) is (a .row) size h (omega arith) (begun (s (a .row)) (starting p (some e) (s (a .row)))) (m .last .0) (z .0), z .1),
+      λ clock n s small fit is p e t.
+          let z = m .ensures .0 clock (n (a .row)) (s (a .row)) small (fit (a .row)) (row-lent n s fit (a .run .now) is (a .row) size h (omega arith)) p e t in
+          (row-back n s fit (a .run .now) is (a .row) size h (omega arith) (begun (s (a .row)) (starting p (some e) (s (a .row)))) (m .last .0) (z .0), z .1),
       m .ensures .1,
     )
 

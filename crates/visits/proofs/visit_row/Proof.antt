@@ -27,9 +27,9 @@ returns c =
     let l = d .before .before in
     let a = l .before .before .before .before .before .args in
     let o = c .before .before .put-full .ensures in (
-      λ clock s f is p e t.
-          visit-live clock (a .initiator) (a .v) p e s f (a .row .now) (d .live-word .result) is (sym (l .before .has-live .ensures s f is) ∙ l .if1 .taken) (d .live-word .ensures s f is)
-          (a .out .now) _ (a .at) _ (o .0 clock),
+      λ clock i s small f is p e t.
+          visit-live clock i (a .v) p e s f (a .row .now) (d .live-word .result) is (sym (l .before .has-live .ensures i s f is) ∙ l .if1 .taken) (d .live-word .ensures i s f is)
+          (a .out .now) _ (a .at) _ (λ x. o .0 clock i x small),
       omega (arith, o .1),
     )
 
@@ -51,9 +51,9 @@ returns-2 c =
     let m = d .before .before .before .start-row in
     let a = d .before .before .before .before .before .before .before .before .before .before .args in
     let o = c .before .before .put-full2 .ensures in (
-      λ clock s f is p e t.
-          let z = m .ensures s f is p e t in
-          (z .1, visit-start clock (a .initiator) (a .v) p e s f (m .result) (z .0) (d .if2 .taken) (a .out .now) _ (a .at) _ (o .0 clock)),
+      λ clock i s small f is p e t.
+          let z = m .ensures i s f is p e t in
+          (z .1, visit-start clock i (a .v) p e s f (m .result) (z .0) (d .if2 .taken) (a .out .now) _ (a .at) _ (λ x. o .0 clock i x small)),
       omega (arith, o .1),
     )
 
@@ -65,9 +65,9 @@ returns-3 c =
     let m = c .before .before .before .start-row in
     let l = c .before .before .before .before .before in
     let a = l .before .before .before .before .before .args in (
-      λ clock s f is p e t.
-          let z = m .ensures s f is p e t in
-          (z .1, visit-nothing clock (a .initiator) (a .v) p e s f (m .result) (z .0) (c .if2 .left) (sym (l .before .has-live .ensures s f is) ∙ l .if1 .left) (a .out .now) (a .at)),
+      λ clock i s small f is p e t.
+          let z = m .ensures i s f is p e t in
+          (z .1, visit-nothing clock i (a .v) p e s f (m .result) (z .0) (c .if2 .left) (sym (l .before .has-live .ensures i s f is) ∙ l .if1 .left) (a .out .now) (a .at)),
       omega arith,
     )
 

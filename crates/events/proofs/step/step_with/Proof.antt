@@ -37,7 +37,7 @@ returns c =
     let q = c .before .before .time-code in
     λ b f.
     by-time-code _ b (a .w) (a .event) (q .result .answer) _ _ (a .records .now) _ _ (q .result .watchdog) _
-    (c .before .before .before .before .before .before .before .event .given .1) (q .ensures b f)
+    (c .before .before .before .before .before .before .before .event .given .1) (q .ensures b (a .rows .now) f)
 
 returns-2 : tie.Need-returns-2
 returns-2 c =

@@ -14,7 +14,7 @@ same-length : tie.Need-same-length
 same-length c = search needs
 
 returns : tie.Need-returns
-returns c = λ s f is. finished s f (c .args .row .now) is
+returns c = λ i s f is. finished i s f (c .args .row .now) is
 
 pub finish-row-spec : {M : Type 1} → statement M
 finish-row-spec = tie.close (tie.spec slice-write-row slice-write-row-2 same-length returns)

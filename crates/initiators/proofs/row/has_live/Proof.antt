@@ -8,7 +8,7 @@ shared-slice-read-result : tie.Need-shared-slice-read-result
 shared-slice-read-result c = search needs
 
 returns : tie.Need-returns
-returns c = λ s f is. live-is s f (c .before .args .row .now) is
+returns c = λ i s f is. live-is i s f (c .before .args .row .now) is
 
 pub has-live-spec : {M : Type 1} → statement M
 has-live-spec = tie.close (tie.spec shared-slice-read-result returns)

@@ -8,7 +8,7 @@ shared-slice-read-result : tie.Need-shared-slice-read-result
 shared-slice-read-result c = search needs
 
 returns : tie.Need-returns
-returns c = λ s f is. count-at s f (c .before .args .row .now) is
+returns c = λ i s f is. count-at i s f (c .before .args .row .now) is
 
 pub waiting-spec : {M : Type 1} → statement M
 waiting-spec = tie.close (tie.spec shared-slice-read-result returns)

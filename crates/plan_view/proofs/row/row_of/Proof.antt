@@ -6,7 +6,7 @@ use native.Mathlib.Omega.{arith}
 use borrow.Author.Needs.{needs}
 use borrow.Author.Tests.{eq-eqb, ne-eqb}
 use Rattle.items.specs.laws.Rows.{isRow}
-use Rattle.plan_view.proofs.row.Laws.{row-told, none-told, passed-more}
+use Rattle.plan_view.proofs.row.Laws.{counted, row-told, none-told, passed-more}
 use Rattle.plan_view.proofs.row.row_of.Statement.{statement}
 use Rattle.plan_view.proofs.row.row_of.Tie as tie
 
@@ -16,8 +16,8 @@ Inv-loop rows numbers i count k₀ k = (k ≤ 8) × ((j : ℕ) → j < k → isR
 abbrev μ-loop : tie.MeasureT-loop
 μ-loop rows numbers i count k₀ k = 8 - k
 
-count-of-requires : tie.Need-count-of-requires Inv-loop μ-loop
-count-of-requires c κs = search needs
+element-copy-out-count : tie.Need-element-copy-out-count Inv-loop μ-loop
+element-copy-out-count c = search needs
 
 loop-holds : tie.Need-loop-holds Inv-loop μ-loop
 loop-holds c = (search needs, λ j h. absurd (omega arith))
@@ -25,20 +25,21 @@ loop-holds c = (search needs, λ j h. absurd (omega arith))
 element-copy-out-b : tie.Need-element-copy-out-b Inv-loop μ-loop
 element-copy-out-b c = search needs
 
+cast-if2 : tie.Need-cast-if2 Inv-loop μ-loop
+cast-if2 c = search needs
+
 returns : tie.Need-returns Inv-loop μ-loop
 returns c size p ok rs ns =
     let l = c .before .before .before .before in
     let a = l .before .before .args in
-    let n = l .before .count-of .ensures size p ok ns in
     row-told p ok size (a .rows .now) (a .numbers .now) rs ns (a .i) (l .loop .k) (l .loop .inv .1) (eq-eqb (a .i) _ (sym (c .before .if1 .taken)))
-    (omega (arith, n))
+    (omega (arith, counted size p (a .numbers .now) ns))
 
 returns-2 : tie.Need-returns-2 Inv-loop μ-loop
 returns-2 c size p ok rs ns =
     let l = c .before .before .before .before in
     let a = l .before .before .args in
-    let n = l .before .count-of .ensures size p ok ns in
-    none-told p ok size (a .rows .now) (a .numbers .now) rs ns (a .i) (l .loop .k) (l .loop .inv .1) (omega (arith, n))
+    none-told p ok size (a .rows .now) (a .numbers .now) rs ns (a .i) (l .loop .k) (l .loop .inv .1) (omega (arith, counted size p (a .numbers .now) ns))
 
 add-k : tie.Need-add-k Inv-loop μ-loop
 add-k c = search needs
@@ -61,4 +62,4 @@ returns-3 c size p ok rs ns =
 pub row-of-spec : {M : Type 1} → statement M
 row-of-spec =
     tie.close
-    (tie.spec Inv-loop μ-loop count-of-requires loop-holds element-copy-out-b returns returns-2 add-k loop-less loop-again returns-3)
+    (tie.spec Inv-loop μ-loop element-copy-out-count loop-holds element-copy-out-b cast-if2 returns returns-2 add-k loop-less loop-again returns-3)

@@ -1,89 +1,68 @@
 -- `request` meets its contract. Assumes nothing.
 use native.Mathlib.Omega.{arith}
 use borrow.Author.Tests.{not-true, not-false}
-use Rattle.requests.proofs.request.Asks.{no-plan, stranger, other-kind, too-long, barred, asks}
+use Rattle.requests.proofs.request.Asks.{stranger, other-kind, too-long, barred, asks}
 use borrow.Author.Needs.{needs}
 use Rattle.requests.proofs.request.request.Statement.{statement}
 use Rattle.requests.proofs.request.request.Tie as tie
 
-is-loaded-requires : tie.Need-is-loaded-requires
-is-loaded-requires c κs = search needs
-
-returns : tie.Need-returns
-returns c =
-    let l = c .before .is-loaded in
-    let a = c .before .before .args in
-    λ b last f room w. no-plan f room w (a .initiator) (a .target) (a .kind) (a .length) (l .result) (l .ensures) (not-true _ (c .if1 .taken))
-
 row-of-requires : tie.Need-row-of-requires
 row-of-requires c κs = search needs
 
+no-row-requires : tie.Need-no-row-requires
+no-row-requires c κs = search needs
+
+returns : tie.Need-returns
+returns c =
+    let r = c .before .before .row-of in
+    let a = c .before .before .before .args in
+    λ b last f room w. stranger f room w (a .initiator) (a .target) (a .kind) (a .length) (r .result) (r .ensures) (c .before .if1 .taken) (c .no-row .result) (c .no-row .ensures)
+
 returns-2 : tie.Need-returns-2
 returns-2 c =
-    let r = c .before .row-of in
-    let d = c .before .before in
-    let l = d .before .is-loaded in
-    let a = d .before .before .args in
-    λ b last f room w.
-    stranger f room w (a .initiator) (a .target) (a .kind) (a .length) (l .result) (l .ensures) (not-false _ (d .if1 .left)) (r .result) (r .ensures) (c .if2 .taken)
+    let r = c .before .before .row-of in
+    let a = c .before .before .before .args in
+    λ b last f room w. other-kind f room w (a .initiator) (a .target) (a .kind) (a .length) (r .result) (r .ensures) (omega arith) (c .if2 .taken)
 
 returns-3 : tie.Need-returns-3
 returns-3 c =
-    let r = c .before .before .row-of in
-    let d = c .before .before .before in
-    let l = d .before .is-loaded in
-    let a = d .before .before .args in
-    λ b last f room w.
-    other-kind f room w (a .initiator) (a .target) (a .kind) (a .length) (l .result) (l .ensures) (not-false _ (d .if1 .left)) (r .result) (r .ensures) (omega arith) (c .if3 .taken)
-
-returns-4 : tie.Need-returns-4
-returns-4 c =
     let r = c .before .before .before .row-of in
-    let d = c .before .before .before .before in
-    let l = d .before .is-loaded in
-    let a = d .before .before .args in
-    λ b last f room w.
-    too-long f room w (a .initiator) (a .target) (a .kind) (a .length) (l .result) (l .ensures) (not-false _ (d .if1 .left)) (r .result) (r .ensures) (omega arith) (omega arith) (c .if4 .taken)
+    let a = c .before .before .before .before .args in
+    λ b last f room w. too-long f room w (a .initiator) (a .target) (a .kind) (a .length) (r .result) (r .ensures) (omega arith) (omega arith) (c .if3 .taken)
 
 may-start-requires : tie.Need-may-start-requires
 may-start-requires c κs = search needs
 
-returns-5 : tie.Need-returns-5
-returns-5 c =
+returns-4 : tie.Need-returns-4
+returns-4 c =
     let y = c .before .may-start in
     let r = c .before .before .before .before .before .row-of in
-    let d = c .before .before .before .before .before .before in
-    let l = d .before .is-loaded in
-    let a = d .before .before .args in
+    let a = c .before .before .before .before .before .before .args in
     λ b last f room w.
-    barred f room w (a .initiator) (a .target) (a .kind) (a .length) (l .result) (l .ensures) (not-false _ (d .if1 .left)) (r .result) (r .ensures) (omega arith) (omega arith) (omega arith)
-    (y .result) (y .ensures) (not-true _ (c .if5 .taken))
+    barred f room w (a .initiator) (a .target) (a .kind) (a .length) (r .result) (r .ensures) (omega arith) (omega arith) (omega arith) (y .result) (y .ensures) (not-true _ (c .if4 .taken))
 
 ask-requires : tie.Need-ask-requires
 ask-requires c κs = search needs
 
-returns-6 : tie.Need-returns-6
-returns-6 c =
+returns-5 : tie.Need-returns-5
+returns-5 c =
     let y = c .before .before .before .may-start in
     let r = c .before .before .before .before .before .before .before .row-of in
-    let d = c .before .before .before .before .before .before .before .before in
-    let l = d .before .is-loaded in
-    let a = d .before .before .args in
+    let a = c .before .before .before .before .before .before .before .before .args in
     λ b last f room w.
-    asks f room w (a .initiator) (a .target) (a .kind) (a .length) (l .result) (l .ensures) (not-false _ (d .if1 .left)) (r .result) (r .ensures) (omega arith) (omega arith) (omega arith)
-    (y .result) (y .ensures) (not-false _ (c .before .before .if5 .left)) (c .ask .result) (c .ask .last .0) (c .ask .ensures)
+    asks f room w (a .initiator) (a .target) (a .kind) (a .length) (r .result) (r .ensures) (omega arith) (omega arith) (omega arith) (y .result) (y .ensures) (not-false _ (c .before .before .if4 .left))
+    (c .ask .result) (c .ask .last .0) (c .ask .ensures)
 
 pub request-spec : {M : Type 1} → statement M
 request-spec =
     tie.close
     (tie.spec
-    is-loaded-requires
-    returns
     row-of-requires
+    no-row-requires
+    returns
     returns-2
     returns-3
-    returns-4
     may-start-requires
-    returns-5
+    returns-4
     ask-requires
-    returns-6)
+    returns-5)

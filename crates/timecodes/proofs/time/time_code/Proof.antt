@@ -12,7 +12,7 @@ returns : tie.Need-returns
 returns c =
     let r = c .before .refuse in
     let a = c .before .before .before .args in
-    λ b f. refused f (a .w) (a .byte) (a .clock) (a .records .now) (r .result) (r .ensures .0 b (f .plan .timed) (a .clock)) (c .if1 .taken)
+    λ b rows f. refused f (a .w) (a .byte) (a .clock) (a .records .now) (r .result) (r .ensures .0 b (f .plan .timed) (a .clock)) (c .if1 .taken)
 
 element-copy-out-run-on : tie.Need-element-copy-out-run-on
 element-copy-out-run-on c = search needs
@@ -26,8 +26,8 @@ add-last c = search needs
 element-write-last : tie.Need-element-write-last
 element-write-last c = search needs
 
-cast-t22 : tie.Need-cast-t22
-cast-t22 c = search needs
+cast-t21 : tie.Need-cast-t21
+cast-t21 c = search needs
 
 fed-with-requires : tie.Need-fed-with-requires
 fed-with-requires c κs = search needs
@@ -41,8 +41,8 @@ returns-2 c =
     let d = c .before .before .before .before .before .before .before in
     let r = d .before .refuse in
     let a = d .before .before .before .args in
-    λ b f.
-    accepted f (a .w) (a .byte) (a .clock) (a .records .now) (sym (d .if1 .left) ∙ r .ensures .0 b (f .plan .timed) (a .clock)) _ _ _ _ (m .ensures b (handed f)) (c .fed-with .ensures)
+    λ b rows f.
+    accepted f (a .w) (a .byte) (a .clock) (a .records .now) (sym (d .if1 .left) ∙ r .ensures .0 b (f .plan .timed) (a .clock)) _ _ _ _ (m .ensures b rows (handed f)) (c .fed-with .ensures)
 
 pub time-code-spec : {M : Type 1} → statement M
 time-code-spec =
@@ -54,7 +54,7 @@ time-code-spec =
     run-on-requires
     add-last
     element-write-last
-    cast-t22
+    cast-t21
     fed-with-requires
     same-length
     returns-2)

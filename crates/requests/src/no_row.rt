@@ -1,0 +1,18 @@
+// A request or a reply whose initiator has no row.
+ghost use mathlib.Core.Path.{_≡_};
+ghost use mathlib.Core.Option.{Option};
+ghost use Rattle.plan_rules.specs.Plan.{Plan};
+ghost use Rattle.plan_view.specs.View.{Timed};
+ghost use Rattle.requests.specs.NoRow.{noRow};
+use box_rules::Answer;
+use plan_view::interval::is_loaded;
+
+// 20 "no plan", 22 "not an initiator of the plan". Without a plan there are no rows: only where none is found is 20 told from 22.
+pub fn no_row(numbers: &[u32; 6]) -> Answer
+    ensures { λ r. ⌜ ((o : Option Plan) → Timed o (now (numbers .entry)) → r ≡ noRow o) ⌝ }
+{
+    if !is_loaded(numbers) {
+        return Answer::Refused { number: 20 };
+    }
+    Answer::Refused { number: 22 }
+}
