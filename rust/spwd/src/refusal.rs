@@ -1,38 +1,46 @@
 //! Refusals of events and of writing out.
 
 use core::fmt;
+use core::num::NonZeroU8;
 
 /// Why an event or writing out was refused: 20 to 30. A refusal changes nothing.
 #[derive(Clone, Copy, Debug, PartialEq, Eq, PartialOrd, Ord, Hash)]
-pub struct Refusal(u8);
+pub struct Refusal(NonZeroU8);
 
 impl Refusal {
     /// 20, every event and writing out: there is no plan.
-    pub const NO_PLAN: Self = Self(20);
+    pub const NO_PLAN: Self = Self::of(20);
     /// 21, time-code: the byte's upper two bits are not 0.
-    pub const UPPER_BITS: Self = Self(21);
+    pub const UPPER_BITS: Self = Self::of(21);
     /// 22, request and reply: not an initiator of the plan.
-    pub const NO_INITIATOR: Self = Self(22);
+    pub const NO_INITIATOR: Self = Self::of(22);
     /// 23, request: the kind is neither [`READ`](crate::READ) nor [`WRITE`](crate::WRITE).
-    pub const UNKNOWN_KIND: Self = Self(23);
+    pub const UNKNOWN_KIND: Self = Self::of(23);
     /// 24, request: length over 4,096.
-    pub const LENGTH_OVER_MOST: Self = Self(24);
+    pub const LENGTH_OVER_MOST: Self = Self::of(24);
     /// 25, request: no entry of this initiator permits the target with this length.
-    pub const NOT_PERMITTED: Self = Self(25);
+    pub const NOT_PERMITTED: Self = Self::of(25);
     /// 26, request: eight are waiting already.
-    pub const LINE_FULL: Self = Self(26);
+    pub const LINE_FULL: Self = Self::of(26);
     /// 27, reply: nothing is live.
-    pub const NOTHING_LIVE: Self = Self(27);
+    pub const NOTHING_LIVE: Self = Self::of(27);
     /// 28, reply: the number is not the live transaction's.
-    pub const OTHER_NUMBER: Self = Self(28);
+    pub const OTHER_NUMBER: Self = Self::of(28);
     /// 29, time-code: the record buffer is under [`RECORDS_ROOM`](crate::RECORDS_ROOM).
-    pub const SMALL_BUFFER: Self = Self(29);
+    pub const SMALL_BUFFER: Self = Self::of(29);
     /// 30, writing out: the room is under the size needed.
-    pub const SMALL_ROOM: Self = Self(30);
+    pub const SMALL_ROOM: Self = Self::of(30);
+
+    const fn of(number: u8) -> Self {
+        match NonZeroU8::new(number) {
+            Some(number) => Self(number),
+            None => panic!("a refusal has a number"),
+        }
+    }
 
     /// Document 01's number.
     pub const fn number(self) -> u8 {
-        self.0
+        self.0.get()
     }
 }
 
@@ -44,11 +52,8 @@ impl fmt::Display for Refusal {
 
 impl core::error::Error for Refusal {}
 
-/// What an answer's number says.
+/// What an answer's number says: one below 256.
 #[inline]
 pub(crate) fn taken(number: u32) -> Result<(), Refusal> {
-    match number {
-        0 => Ok(()),
-        _ => Err(Refusal(number as u8)),
-    }
+    NonZeroU8::new(number as u8).map_or(Ok(()), |number| Err(Refusal(number)))
 }
