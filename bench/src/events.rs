@@ -1,7 +1,9 @@
-//! Events under the maximal plan: eight initiators, each with an entry of span 1 in every slot.
+//! Events under the maximal plan: eight initiators, each with an entry of span 1 in every slot. Every number of an event comes out of a
+//! black box, since the compiler inlines the reference and would leave out its tests of numbers that it knows.
 
 use crate::sides::{Proved, Reference, Side};
 use crate::timing::{by_turns, print_row, Least, ROUNDS};
+use spwd::READ;
 use std::array::from_fn;
 use std::hint::black_box;
 
@@ -11,6 +13,8 @@ const INITIATORS: usize = 8;
 /// How many requests wait for an initiator whose line is full.
 const WAITING: usize = 8;
 const READINGS: usize = 64;
+/// The status of a reply.
+const SUCCESS: u8 = 0;
 
 /// The boxes of a side.
 struct Events<S> {
@@ -34,13 +38,14 @@ impl<S: Side> Events<S> {
 
     /// Fills every line.
     fn requests(&mut self) {
-        let requests: [(u8, u8); INITIATORS * WAITING] = black_box(from_fn(|index| {
+        let requests: [(u8, u8, u8, u16); INITIATORS * WAITING] = black_box(from_fn(|index| {
             let (initiator, place) = (index / WAITING, index % WAITING);
-            (initiator as u8, (16 + 6 * initiator + place % 6) as u8)
+            let target = 16 + 6 * initiator + place % 6;
+            (initiator as u8, target as u8, READ, 256)
         }));
         for one in &mut self.boxes {
-            for (initiator, target) in requests {
-                self.wrong |= one.request(initiator, target, 256);
+            for (initiator, target, kind, length) in requests {
+                self.wrong |= one.request(initiator, target, kind, length);
             }
         }
     }
@@ -58,10 +63,12 @@ impl<S: Side> Events<S> {
 
     /// A reply to every live transaction.
     fn replies(&mut self) {
-        let number = black_box((self.count - 1) as u16);
+        let number = (self.count - 1) as u16;
+        let replies: [(u8, u16, u8); INITIATORS] =
+            black_box(from_fn(|initiator| (initiator as u8, number, SUCCESS)));
         for one in &mut self.boxes {
-            for initiator in 0..INITIATORS as u8 {
-                self.wrong |= one.reply(initiator, number);
+            for (initiator, number, status) in replies {
+                self.wrong |= one.reply(initiator, number, status);
             }
         }
     }
@@ -152,14 +159,19 @@ fn print_not_permitted(maximal: &[u8]) {
     let (mut ours, mut theirs) = (Proved::new(), Reference::new());
     let loaded = (ours.load(maximal), theirs.load(maximal));
     assert_eq!(loaded, (0, 0), "the plan is refused");
-    let answers = (ours.request(7, 16, 256), theirs.request(7, 16, 256));
+    let answers = (
+        ours.request(7, 16, READ, 256),
+        theirs.request(7, 16, READ, 256),
+    );
     assert_eq!(answers, (25, 25), "the request is not refused");
     let (least, their_least) = by_turns(
         || {
-            black_box(black_box(&mut ours).request(7, black_box(16), 256));
+            let (initiator, target, kind, length) = black_box((7, 16, READ, 256));
+            black_box(black_box(&mut ours).request(initiator, target, kind, length));
         },
         || {
-            black_box(black_box(&mut theirs).request(7, black_box(16), 256));
+            let (initiator, target, kind, length) = black_box((7, 16, READ, 256));
+            black_box(black_box(&mut theirs).request(initiator, target, kind, length));
         },
     );
     print_row("request, refused with 25", "", "", &least, &their_least);

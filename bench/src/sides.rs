@@ -14,8 +14,8 @@ pub trait Side {
     fn write_out(&self, out: &mut [u8]) -> usize;
     /// And how many records.
     fn time_code(&mut self, byte: u8, clock: u32) -> (u8, u8);
-    fn request(&mut self, initiator: u8, target: u8, length: u16) -> u8;
-    fn reply(&mut self, initiator: u8, number: u16) -> u8;
+    fn request(&mut self, initiator: u8, target: u8, kind: u8, length: u16) -> u8;
+    fn reply(&mut self, initiator: u8, number: u16, status: u8) -> u8;
     fn reading(&mut self, clock: u32) -> u8;
 }
 
@@ -58,12 +58,12 @@ impl Side for Proved {
         (number(answer), answer.unwrap_or(0))
     }
 
-    fn request(&mut self, initiator: u8, target: u8, length: u16) -> u8 {
-        number(self.spwd.request(initiator, target, spwd::READ, length))
+    fn request(&mut self, initiator: u8, target: u8, kind: u8, length: u16) -> u8 {
+        number(self.spwd.request(initiator, target, kind, length))
     }
 
-    fn reply(&mut self, initiator: u8, transaction: u16) -> u8 {
-        number(self.spwd.reply(initiator, transaction, 0))
+    fn reply(&mut self, initiator: u8, transaction: u16, status: u8) -> u8 {
+        number(self.spwd.reply(initiator, transaction, status))
     }
 
     fn reading(&mut self, clock: u32) -> u8 {
@@ -119,21 +119,21 @@ impl Side for Reference {
         }
     }
 
-    fn request(&mut self, initiator: u8, target: u8, length: u16) -> u8 {
+    fn request(&mut self, initiator: u8, target: u8, kind: u8, length: u16) -> u8 {
         let event = Event::Request {
             initiator,
             target,
-            kind: 0,
+            kind,
             length,
         };
         self.step(event).number()
     }
 
-    fn reply(&mut self, initiator: u8, number: u16) -> u8 {
+    fn reply(&mut self, initiator: u8, number: u16, status: u8) -> u8 {
         let event = Event::Reply {
             initiator,
             number,
-            status: 0,
+            status,
         };
         self.step(event).number()
     }
