@@ -4,7 +4,7 @@ use mathlib.Core.Logic.{by-cases}
 use mathlib.Core.List.{List, [], List·Memᴰ}
 use mathlib.Core.Option.{Option, none, some}
 use mathlib.Core.Bool.{Bool, true, false, _&&_}
-use Prim.Native.Nat.{ℕ, _+_, _≤_, _<_}
+use Prim.Native.Nat.{ℕ, _+_, _≤_}
 use native.Mathlib.Decide.{decLt}
 use native.Mathlib.Omega.{arith}
 use lib.Dec.{eqb}
@@ -22,7 +22,7 @@ use Rattle.plan_rules.specs.laws.Runs.{entry-at, found-at}
 use Rattle.plan_memory.specs.Memory.{ofRow, spanOf, spansOf, aimOf, aimsOf}
 use Rattle.plan_view.specs.View.{Tells}
 use Rattle.box_rules.specs.Refuse.{mayStart}
-use Rattle.asking.specs.Sides.{Tried}
+use Rattle.asking.specs.Sides.{Tried, BarredAt, Barred}
 use Rattle.plan_view.specs.laws.Entries.{spanRead, targetsRead, entry-told}
 
 -- what is read at a slot, and the answer for it
@@ -35,18 +35,8 @@ Aimed aims row slot targets = (p : Plan) → Sound p → aims ≡ aimsOf p → t
 abbrev pub Permitted : ℕ → ℕ → ℕ → ℕ → Bool → Type 0
 Permitted targets span t n x = (p : Plan) (e : Entry) → Tells targets span e → x ≡ permits p e t n
 
--- an entry of the row at this slot does not permit it
-abbrev pub BarredAt : (spans aims : List ℕ) (row t n slot : ℕ) → Type 0
-BarredAt spans aims row t n slot =
-    (p : Plan) (i : ℕ) → Sound p → spans ≡ spansOf p → aims ≡ aimsOf p → atPlace row (initiators p) ≡ some i
-    → (e : Entry) → entryAt (p .entries) i slot ≡ some e → permits p e t n ≡ false
-
--- none at a slot before this one does
-abbrev pub Barred : (spans aims : List ℕ) (row t n slot : ℕ) → Type 0
-Barred spans aims row t n slot = (v : ℕ) → v < slot → BarredAt spans aims row t n v
-
 module _ (spans aims : List ℕ) (row t n : ℕ) where
-  pub slots-begin : Barred spans aims row t n 0
+  slots-begin : Barred spans aims row t n 0
   slots-begin v h = absurd (omega arith)
 
   slots-past : (slot : ℕ) → Barred spans aims row t n slot → BarredAt spans aims row t n slot → Barred spans aims row t n (slot + 1)
@@ -83,6 +73,10 @@ module _ (spans aims : List ℕ) (row t n : ℕ) where
         go (some e) h =
             let s = entry-at (p .entries) i slot e h in
             sym (any-intro _ (p .entries) e (s .has) (true-both (eq-eqb i (e .initiator) (sym (s .own))) (sym (some-here p i ok es ea at e h) ∙ yes′)))
+
+  -- slot 0, tried by itself
+  pub slots-first : (targets span : ℕ) (x : Bool) → Spanned spans row 0 span → Aimed aims row 0 targets → Permitted targets span t n x → x ≡ false → Barred spans aims row t n 1
+  slots-first targets span x spanned aimed told no′ = slots-next 0 targets span x spanned aimed told slots-begin no′
 
   -- a slot whose entry lacks the target
   pub slots-lack : (slot targets : ℕ) → Aimed aims row slot targets → member t targets ≡ false → Barred spans aims row t n slot → Barred spans aims row t n (slot + 1)

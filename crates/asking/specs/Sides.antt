@@ -1,6 +1,6 @@
 -- What a request does to the side of its initiator once the plan permits it, and whether it does.
-use Prim.Native.Nat.{ℕ}
-use mathlib.Core.Bool.{Bool, cond}
+use Prim.Native.Nat.{ℕ, _<_}
+use mathlib.Core.Bool.{Bool, false, cond}
 use lib.ListN.{length}
 use lib.Dec.{leb}
 use Rattle.box_rules.specs.declared.Answer.{Answer}
@@ -12,8 +12,8 @@ use mathlib.Core.Path.{_≡_}
 use mathlib.Core.List.{List}
 use mathlib.Core.Option.{some}
 use Rattle.lists.specs.Place.{atPlace}
-use Rattle.plan_rules.specs.Plan.{Plan}
-use Rattle.plan_rules.specs.Meaning.{initiators}
+use Rattle.plan_rules.specs.Plan.{Plan, Entry}
+use Rattle.plan_rules.specs.Meaning.{initiators, entryAt, permits}
 use Rattle.plan_rules.specs.laws.Sound.{Sound}
 use Rattle.plan_memory.specs.Memory.{spansOf, aimsOf}
 use Rattle.box_rules.specs.Refuse.{mayStart}
@@ -21,6 +21,16 @@ use Rattle.box_rules.specs.Refuse.{mayStart}
 -- r tells whether some entry of the row permits the target t with the length n
 abbrev pub Tried : (spans aims : List ℕ) (row t n : ℕ) → Bool → Type 0
 Tried spans aims row t n r = (p : Plan) (i : ℕ) → Sound p → spans ≡ spansOf p → aims ≡ aimsOf p → atPlace row (initiators p) ≡ some i → r ≡ mayStart p (p .entries) i t n
+
+-- an entry of the row at this slot does not permit it
+abbrev pub BarredAt : (spans aims : List ℕ) (row t n slot : ℕ) → Type 0
+BarredAt spans aims row t n slot =
+    (p : Plan) (i : ℕ) → Sound p → spans ≡ spansOf p → aims ≡ aimsOf p → atPlace row (initiators p) ≡ some i
+    → (e : Entry) → entryAt (p .entries) i slot ≡ some e → permits p e t n ≡ false
+
+-- none at a slot before this one does
+abbrev pub Barred : (spans aims : List ℕ) (row t n slot : ℕ) → Type 0
+Barred spans aims row t n slot = (v : ℕ) → v < slot → BarredAt spans aims row t n v
 
 -- a request that the plan permits: 26, or its number
 unfoldable pub isFull : Side → Bool

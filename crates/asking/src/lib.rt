@@ -15,7 +15,7 @@ ghost use Rattle.box_rules.specs.Refuse.{mayStart};
 ghost use Rattle.box_rules.specs.laws.Fit.{FitSide};
 ghost use Rattle.initiators.specs.Run.{rowOf, changed, rowsWith};
 ghost use Rattle.initiators.specs.Row.{IsRow};
-ghost use Rattle.asking.specs.Sides.{Tried, askedAnswer, askedSide};
+ghost use Rattle.asking.specs.Sides.{Tried, Barred, askedAnswer, askedSide};
 use box_rules::Answer;
 use in_line::join_row;
 use initiators::row::waiting;
@@ -25,12 +25,12 @@ use plan_view::entry::targets_at;
 use sets::has;
 use sets::union;
 
-// Whether the target is none of those of the row's entries: all 64 sets joined, so that one test tells.
+// Whether the target is none of those of the row's entries after slot 0: all their sets joined, so that one test tells.
 fn lacks(aims: &[u64; 512], row: usize, target: u8) -> bool
-    ensures { λ r. ⌜ (r ≡ true → (spans : List ℕ) (n : ℕ) → Tried spans (now (aims .entry)) row target n false) ⌝ }
+    ensures { λ r. ⌜ (r ≡ true → (spans : List ℕ) (n : ℕ) → Barred spans (now (aims .entry)) row target n 1 → Tried spans (now (aims .entry)) row target n false) ⌝ }
 {
     let mut all: u64 = 0;
-    let mut v: u8 = 0;
+    let mut v: u8 = 1;
     while v < 64 {
         all = union(all, targets_at(aims, row, v));
         v += 1;

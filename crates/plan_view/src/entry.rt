@@ -39,7 +39,7 @@ pub fn permits(targets: u64, span: u8, target: u8, length: u16) -> bool
     ensures { λ r. ⌜ ((p : Plan) (e : Entry) → Tells targets span e → r ≡ meaning.permits p e target length) ⌝ }
 {
     if sets::has(targets, target) {
-        return length as u32 <= 256 * span as u32;
+        return length <= 256 * span as u16;
     }
     false
 }

@@ -8,18 +8,19 @@ use borrow.Author.Needs.{needs}
 use borrow.Author.Tests.{not-true}
 use Rattle.lists.specs.laws.Bools.{neither}
 use Rattle.sets.specs.Set.{member}
-use Rattle.asking.proofs.Slots.{Barred, slots-begin, slots-lack, slots-done}
+use Rattle.asking.proofs.Slots.{slots-lack, slots-done}
+use Rattle.asking.specs.Sides.{Barred}
 use Rattle.asking.proofs.lacks.Statement.{statement}
 use Rattle.asking.proofs.lacks.Tie as tie
 
 abbrev Inv-loop : tie.InvT-loop
-Inv-loop aims row target all₀ v₀ all v = (v ≤ 64) × (member target all ≡ false → (spans : List ℕ) (n : ℕ) → Barred spans aims row target n v)
+Inv-loop aims row target all₀ v₀ all v = (v ≤ 64) × (member target all ≡ false → (spans : List ℕ) (n : ℕ) → Barred spans aims row target n 1 → Barred spans aims row target n v)
 
 abbrev μ-loop : tie.MeasureT-loop
 μ-loop aims row target all₀ v₀ all v = 64 - v
 
 loop-holds : tie.Need-loop-holds Inv-loop μ-loop
-loop-holds c = let a = c .args in (search needs, λ _ spans n. slots-begin spans (a .aims .now) (a .row) (a .target) n)
+loop-holds c = (search needs, λ _ spans n first. first)
 
 targets-at-requires : tie.Need-targets-at-requires Inv-loop μ-loop
 targets-at-requires c κs = search needs
@@ -39,9 +40,9 @@ loop-again c =
     let a = s .before .args in
     let t = c .before .targets-at in (
       search needs,
-      λ z spans n.
+      λ z spans n first.
           let both = neither (member (a .target) (s .loop .all)) (member (a .target) (t .result)) (sym (c .union .ensures (a .target)) ∙ z) in
-          slots-lack spans (a .aims .now) (a .row) (a .target) n (s .loop .v) (t .result) (t .ensures) (both .1) (s .loop .inv .1 (both .0) spans n),
+          slots-lack spans (a .aims .now) (a .row) (a .target) n (s .loop .v) (t .result) (t .ensures) (both .1) (s .loop .inv .1 (both .0) spans n first),
     )
 
 has-requires : tie.Need-has-requires Inv-loop μ-loop
@@ -51,7 +52,7 @@ returns : tie.Need-returns Inv-loop μ-loop
 returns c =
     let s = c .before .before in
     let a = s .before .args in
-    λ e spans n. slots-done spans (a .aims .now) (a .row) (a .target) n (s .loop .v) (omega arith) (s .loop .inv .1 (sym (c .has .ensures) ∙ not-true _ e) spans n)
+    λ e spans n first. slots-done spans (a .aims .now) (a .row) (a .target) n (s .loop .v) (omega arith) (s .loop .inv .1 (sym (c .has .ensures) ∙ not-true _ e) spans n first)
 
 pub lacks-spec : {M : Type 1} → statement M
 lacks-spec =

@@ -2,7 +2,8 @@
 use Prim.Native.Nat.{_-_, _≤_}
 use native.Mathlib.Omega.{arith}
 use borrow.Author.Needs.{needs}
-use Rattle.asking.proofs.Slots.{Barred, slots-begin, slots-next, slots-met, slots-done}
+use Rattle.asking.proofs.Slots.{slots-first, slots-next, slots-met, slots-done}
+use Rattle.asking.specs.Sides.{Barred}
 use Rattle.asking.proofs.may_start.Statement.{statement}
 use Rattle.asking.proofs.may_start.Tie as tie
 
@@ -34,8 +35,13 @@ lacks-requires c κs = search needs
 
 returns-2 : tie.Need-returns-2 Inv-loop μ-loop
 returns-2 c =
-    let a = c .before .before .before .before .before .before .args in
+    let d = c .before .before in
+    let t = d .before .before .before .targets-at in
+    let n = d .before .before .span-at in
+    let r = d .before .permits in
+    let a = d .before .before .before .before .args in
     c .before .lacks .ensures (c .if2 .taken) (a .spans .now) (a .length)
+    (slots-first (a .spans .now) (a .aims .now) (a .row) (a .target) (a .length) (t .result) (n .result) (r .result) (n .ensures) (t .ensures) (r .ensures) (d .if1 .left))
 
 loop-holds : tie.Need-loop-holds Inv-loop μ-loop
 loop-holds c =
@@ -45,8 +51,7 @@ loop-holds c =
     let r = d .before .permits in
     let a = d .before .before .before .before .args in (
       search needs,
-      slots-next (a .spans .now) (a .aims .now) (a .row) (a .target) (a .length) 0 (t .result) (n .result) (r .result) (n .ensures) (t .ensures) (r .ensures)
-          (slots-begin (a .spans .now) (a .aims .now) (a .row) (a .target) (a .length)) (d .if1 .left),
+      slots-first (a .spans .now) (a .aims .now) (a .row) (a .target) (a .length) (t .result) (n .result) (r .result) (n .ensures) (t .ensures) (r .ensures) (d .if1 .left),
     )
 
 targets-at-requires-2 : tie.Need-targets-at-requires-2 Inv-loop μ-loop
