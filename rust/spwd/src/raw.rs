@@ -23,8 +23,9 @@ pub(crate) type Run = [u64; 96];
 pub(crate) type Last = [u8; 1];
 /// The watchdog's numbers: last clock, seen, reported, least, greatest.
 pub(crate) type Five = [u32; 5];
-/// Room for the numbers of an answer: every event stores all eight.
-type Answer = MaybeUninit<[u32; 8]>;
+/// Room for the numbers of an answer: every event stores all eight. So aligned it is within one line of the cache wherever the stack lies.
+#[repr(C, align(32))]
+struct Answer(MaybeUninit<[u32; 8]>);
 
 extern "C" {
     fn spwd_c_clear(
@@ -202,7 +203,7 @@ pub(crate) fn time_code(
     clock: u32,
     records: &mut [u8],
 ) -> [u32; 8] {
-    let mut answer = Answer::uninit();
+    let mut answer = Answer(MaybeUninit::uninit());
     // SAFETY: pointer and length are those of one slice that is lent to be written; the rest are numbers and references.
     // The call stores the whole answer.
     unsafe {
@@ -219,7 +220,7 @@ pub(crate) fn time_code(
             records.len(),
             &mut answer,
         );
-        answer.assume_init()
+        answer.0.assume_init()
     }
 }
 
@@ -232,7 +233,7 @@ pub(crate) fn request(
     kind: u8,
     length: u16,
 ) -> [u32; 8] {
-    let mut answer = Answer::uninit();
+    let mut answer = Answer(MaybeUninit::uninit());
     // SAFETY: numbers, and references of the sizes that are declared. The call stores the whole answer.
     unsafe {
         spwd_c_request(
@@ -247,7 +248,7 @@ pub(crate) fn request(
             length,
             &mut answer,
         );
-        answer.assume_init()
+        answer.0.assume_init()
     }
 }
 
@@ -259,7 +260,7 @@ pub(crate) fn reply(
     number: u16,
     status: u8,
 ) -> [u32; 8] {
-    let mut answer = Answer::uninit();
+    let mut answer = Answer(MaybeUninit::uninit());
     // SAFETY: numbers, and references of the sizes that are declared. The call stores the whole answer.
     unsafe {
         spwd_c_reply(
@@ -271,17 +272,17 @@ pub(crate) fn reply(
             status,
             &mut answer,
         );
-        answer.assume_init()
+        answer.0.assume_init()
     }
 }
 
 #[inline]
 pub(crate) fn reading(plan: &Plan, five: &mut Five, clock: u32) -> [u32; 8] {
-    let mut answer = Answer::uninit();
+    let mut answer = Answer(MaybeUninit::uninit());
     // SAFETY: numbers, and references of the sizes that are declared. The call stores the whole answer.
     unsafe {
         spwd_c_reading(&plan.numbers, five, clock, &mut answer);
-        answer.assume_init()
+        answer.0.assume_init()
     }
 }
 
