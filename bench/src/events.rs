@@ -21,18 +21,18 @@ struct Events<S> {
     boxes: Vec<S>,
     /// Time-codes so far. Each of them starts one transaction of each initiator, so this is the next one's number too.
     count: u32,
-    /// Not 0 if an event was refused or wrote another number of records.
-    wrong: u8,
+    /// Whether an event was refused or wrote another number of records.
+    wrong: bool,
 }
 
 impl<S: Side> Events<S> {
     fn under(file: &[u8]) -> Self {
         let mut boxes: Vec<S> = (0..BOXES).map(|_| S::new()).collect();
-        let refused = boxes.iter_mut().fold(0, |all, one| all | one.load(file));
+        let wrong = boxes.iter_mut().any(|one| one.load(file) != 0);
         Self {
             boxes,
             count: 0,
-            wrong: refused,
+            wrong,
         }
     }
 
@@ -44,8 +44,8 @@ impl<S: Side> Events<S> {
             (initiator as u8, target as u8, READ, 256)
         }));
         for one in &mut self.boxes {
-            for (initiator, target, kind, length) in requests {
-                self.wrong |= one.request(initiator, target, kind, length);
+            for &(initiator, target, kind, length) in &requests {
+                self.wrong |= one.request(initiator, target, kind, length) != 0;
             }
         }
     }
@@ -55,8 +55,7 @@ impl<S: Side> Events<S> {
         let byte = black_box((self.count % 64) as u8);
         let clock = black_box(self.count.wrapping_mul(100));
         for one in &mut self.boxes {
-            let (number, count) = one.time_code(byte, clock);
-            self.wrong |= number | (count ^ records as u8);
+            self.wrong |= one.time_code(byte, clock) != (0, records as u8);
         }
         self.count += 1;
     }
@@ -67,8 +66,8 @@ impl<S: Side> Events<S> {
         let replies: [(u8, u16, u8); INITIATORS] =
             black_box(from_fn(|initiator| (initiator as u8, number, SUCCESS)));
         for one in &mut self.boxes {
-            for (initiator, number, status) in replies {
-                self.wrong |= one.reply(initiator, number, status);
+            for &(initiator, number, status) in &replies {
+                self.wrong |= one.reply(initiator, number, status) != 0;
             }
         }
     }
@@ -78,8 +77,8 @@ impl<S: Side> Events<S> {
         let last = (self.count - 1).wrapping_mul(100);
         let clocks: [u32; READINGS] = black_box(from_fn(|after| last.wrapping_add(after as u32)));
         for one in &mut self.boxes {
-            for clock in clocks {
-                self.wrong |= one.reading(clock);
+            for &clock in &clocks {
+                self.wrong |= one.reading(clock) != 0;
             }
         }
     }
@@ -138,7 +137,7 @@ pub fn print_events(maximal: &[u8]) {
         ours.late_round(&mut times);
         theirs.late_round(&mut their_times);
     }
-    assert_eq!((ours.wrong, theirs.wrong), (0, 0), "an event went wrong");
+    assert!(!ours.wrong && !theirs.wrong, "an event went wrong");
     for (name, least, their_least) in [
         (
             "time-code, 8 endings and 8 starts",
