@@ -1,5 +1,6 @@
 // A request as one word of run memory.
 ghost use mathlib.Core.Path.{_≡_};
+ghost use Prim.Native.Nat.{_+_, _*_, _/_, _%_};
 ghost use Rattle.initiators.specs.Run as run;
 
 // Two bytes in the other order: a record has the high byte first, a word the low one.
@@ -9,11 +10,18 @@ fn swapped(n: u16) -> u16
     n / 256 + n % 256 * 256
 }
 
+// Four bytes in the other order: one instruction for the compiler, where two swaps of two bytes are several.
+fn reversed(n: u32) -> u32
+    ensures { λ r. ⌜ r ≡ run.swapped (n / 65_536) + run.swapped (n % 65_536) * 65_536 ⌝ }
+{
+    n / 16_777_216 + n / 65_536 % 256 * 256 + n / 256 % 256 * 65_536 + n % 256 * 16_777_216
+}
+
 // A request as one word: its own kind, then what its records say of it.
 pub fn word_of(initiator: u8, target: u8, kind: u8, length: u16, number: u16) -> u64
     ensures { λ r. ⌜ r ≡ run.wordOf initiator (record { target = target; kind = kind; length = length; number = number }) ⌝ }
 {
-    let last = swapped(number) as u64 + swapped(length) as u64 * 65_536;
+    let last = reversed(number as u32 * 65_536 + length as u32) as u64;
     (kind as u64) * 128 + (initiator as u64) * 256 + (target as u64) * 65_536 + last * 4_294_967_296
 }
 

@@ -1,26 +1,24 @@
 -- `word_of` meets its contract. Assumes nothing.
-use Rattle.initiators.specs.Run.{wordOf}
+use mathlib.Core.Path.{ap}
+use Prim.Native.Nat.{_<_}
+use native.Mathlib.Omega.{arith}
+use lib.Arith.{digits-div, digits-mod}
+use Rattle.initiators.specs.Run.{swapped, wordOf}
 use borrow.Author.Needs.{needs}
 use Rattle.initiators.proofs.word.word_of.Statement.{statement}
 use Rattle.initiators.proofs.word.word_of.Tie as tie
 
-swapped-requires : tie.Need-swapped-requires
-swapped-requires c κs = search needs
+mul-reversed : tie.Need-mul-reversed
+mul-reversed c = search needs
+
+add-reversed : tie.Need-add-reversed
+add-reversed c = search needs
+
+reversed-requires : tie.Need-reversed-requires
+reversed-requires c κs = search needs
 
 cast-last : tie.Need-cast-last
 cast-last c = search needs
-
-swapped-requires-2 : tie.Need-swapped-requires-2
-swapped-requires-2 c κs = search needs
-
-cast-last-2 : tie.Need-cast-last-2
-cast-last-2 c = search needs
-
-mul-last : tie.Need-mul-last
-mul-last c = search needs
-
-add-last : tie.Need-add-last
-add-last c = search needs
 
 mul-result : tie.Need-mul-result
 mul-result c = search needs
@@ -45,18 +43,19 @@ add-result-3 c = search needs
 
 returns : tie.Need-returns
 unfolding wordOf
-returns c = search needs
+returns c =
+    let a = c .before .args in
+    let h : a .length < 65_536 = search needs in
+    omega (arith, ap swapped (digits-div (a .number) h), ap swapped (digits-mod (a .number) h))
 
 pub word-of-spec : {M : Type 1} → statement M
 word-of-spec =
     tie.close
     (tie.spec
-    swapped-requires
+    mul-reversed
+    add-reversed
+    reversed-requires
     cast-last
-    swapped-requires-2
-    cast-last-2
-    mul-last
-    add-last
     mul-result
     mul-result-2
     add-result
