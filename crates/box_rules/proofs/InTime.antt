@@ -4,17 +4,16 @@ use mathlib.Core.Path.{_≡_, refl, sym, ap, _∙_}
 use mathlib.Core.Logic.{_≢_}
 use mathlib.Core.List.{List, [], _∷_, List·Memᴰ}
 use mathlib.Core.Option.{Option, none, some}
-use mathlib.Core.Bool.{Bool, true, false, not, _&&_, _||_, cond}
+use mathlib.Core.Bool.{Bool, true, false, not, _||_, cond}
 use Prim.Native.Nat.{ℕ, suc, _+_, _-_, _*_, _%_, _≤_, _<_}
 use native.Mathlib.Omega.{arith}
 use native.Mathlib.Decide.{ℕ-discrete}
 use lib.ListN.{length}
 use lib.Dec.{eqb}
-use borrow.Author.Tests.{eqb-true, eqb-false, lt-ltb, ne-eqb, not-false}
+use borrow.Author.Tests.{eqb-false, lt-ltb, ne-eqb, not-false}
 use Rattle.lists.specs.Place.{Found, first, atPlace}
 use Rattle.lists.specs.Rows.{testOf}
 use Rattle.lists.specs.laws.Bools.{both-true, some-some}
-use Rattle.lists.specs.laws.Search.{any-elim}
 use Rattle.lists.specs.laws.Rows.{rise, no-row}
 use Rattle.lists.specs.laws.Place.{first-has}
 use Rattle.plan_rules.specs.Plan.{Entry, Plan}
@@ -34,6 +33,7 @@ use Rattle.plan_rules.specs.Promises.{AcceptedIsSound}
 use Rattle.plan_rules.specs.laws.Runs.{found-at, no-entry-after}
 use Rattle.box_rules.specs.laws.Turns.{Outlives, outlives, begins-at}
 use Rattle.box_rules.specs.laws.Steps.{step-cases, plan-kept}
+use Rattle.box_rules.specs.laws.Permitted.{permitted-by}
 use Rattle.box_rules.specs.laws.Invariant.{AtWork, Inv, next-value, older-at-work, step-inv, reached-inv}
 use Rattle.box_rules.proofs.Places.{fate-cases, event-one, joins-as-asked}
 
@@ -165,12 +165,10 @@ module _ (e : Entry) (r : state.Request) where
 -- what is asked and accepted is allowed by some entry
 allowed : (room : ℕ) (b : Box) (i t k n : ℕ) → refusal room b (Request i t k n) ≡ 0
     → (e : Entry) × List·Memᴰ e ((thePlan b) .entries) × (e .initiator ≡ i) × (permits (thePlan b) e t n ≡ true)
-unfolding refusal refusals rise testOf mayStart
+unfolding refusal refusals rise testOf
 allowed room b i t k n h =
-    let may = not-false (mayStart (thePlan b) ((thePlan b) .entries) i t n) (no-row 25 (refusals room b (Request i t k n)) 0 refl h) in
-    let (e, m, g) = any-elim (λ (e : Entry). eqb i (e .initiator) && permits (thePlan b) e t n) ((thePlan b) .entries) may in
-    let ab = both-true (eqb i (e .initiator)) (permits (thePlan b) e t n) g in
-    (e, m, sym (eqb-true i (e .initiator) (ab .0)), ab .1)
+    permitted-by (thePlan b) ((thePlan b) .entries) i t n
+    (not-false (mayStart (thePlan b) ((thePlan b) .entries) i t n) (no-row 25 (refusals room b (Request i t k n)) 0 refl h))
 
 pub requests-start-in-time : AcceptedIsSound → RequestsStartInTime
 unfolding RequestsStartInTime allows JoinsAsAsked

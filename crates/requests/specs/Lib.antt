@@ -1,1 +1,2 @@
 pub mod NoRow
+pub mod NotPermitted

@@ -1,4 +1,5 @@
 // A request: "Joins its initiator's line and gets that initiator's next 16-bit transaction number".
+ghost use mathlib.Core.Path.{_≡_};
 ghost use mathlib.Core.List.{List};
 ghost use Prim.Native.Nat.{ℕ};
 ghost use Rattle.box_rules.specs.declared.Event.the-variants.{Request};
@@ -6,11 +7,23 @@ ghost use Rattle.box_rules.specs.declared.Watchdog.{Watchdog};
 ghost use Rattle.box_rules.specs.State.{Box};
 ghost use Rattle.box_rules.specs.Step as rules;
 ghost use Rattle.initiators.specs.Memory.{Finds, Answers};
+ghost use Rattle.requests.specs.NotPermitted.{notPermitted};
 use crate::no_row::no_row;
 use asking::ask;
 use asking::may_start;
 use box_rules::Answer;
 use plan_view::row::row_of;
+
+// 24 "length over 4,096", 25 "no entry of this initiator permits the target with 256 × span at least the length". What an entry permits is
+// never longer: only where none does is 24 told from 25.
+fn not_permitted(length: u16) -> Answer
+    ensures { λ r. ⌜ r ≡ notPermitted length ⌝ }
+{
+    if 4096 < length {
+        return Answer::Refused { number: 24 };
+    }
+    Answer::Refused { number: 25 }
+}
 
 pub fn request(
     rows: &[u8; 8],
@@ -33,11 +46,8 @@ pub fn request(
     if 1 < kind {
         return Answer::Refused { number: 23 };
     }
-    if 4096 < length {
-        return Answer::Refused { number: 24 };
-    }
     if !may_start(spans, aims, row, target, length) {
-        return Answer::Refused { number: 25 };
+        return not_permitted(length);
     }
     ask(run, row, initiator, target, kind, length)
 }

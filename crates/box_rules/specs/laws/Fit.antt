@@ -11,12 +11,11 @@ use lib.ListN.{length, length-append}
 use lib.Dec.{eqb}
 use borrow.Author.Tests.{eqb-true, ltb-false, leb-false, not-false}
 use Rattle.lists.specs.Rows.{testOf}
-use Rattle.lists.specs.laws.Bools.{both-true, not-both, none-some, some-some, cond-cases}
-use Rattle.lists.specs.laws.Search.{any-elim}
+use Rattle.lists.specs.laws.Bools.{not-both, none-some, some-some, cond-cases}
 use Rattle.lists.specs.laws.Rows.{rise, no-row}
 use Rattle.lists.specs.laws.Place.{first-some, at-member, without-member, without-short}
 use Rattle.plan_rules.specs.Plan.{Entry, Plan}
-use Rattle.plan_rules.specs.Meaning.{isInitiator, permits}
+use Rattle.plan_rules.specs.Meaning.{isInitiator}
 use Rattle.plan_rules.specs.Verdict.{number}
 use Rattle.plan_rules.specs.Judge.{judge}
 use Rattle.plan_rules.specs.Canon.{planOf}
@@ -34,6 +33,7 @@ use Rattle.box_rules.specs.Step.{Outcome, accepts, withSide, ticked}
 use Rattle.box_rules.specs.History.{Reached, by-clear, by-load, by-event}
 use Rattle.box_rules.specs.laws.Turns.{Outlives, outlives, visited-has, starting-elim, begins, turned-rest}
 use Rattle.box_rules.specs.laws.Steps.{step-cases}
+use Rattle.box_rules.specs.laws.Permitted.{permitted-by}
 
 pub record FitRequest (r : state.Request) : Type 0 where
   pub target : r .target < 64
@@ -119,13 +119,12 @@ module _ (room : ℕ) (b : Box) (i t k n : ℕ) (ok : Sound (thePlan b)) (h : re
   asks-initiator = not-false (isInitiator (thePlan b) i) (no-row 22 (refusals room b (Request i t k n)) 0 refl h)
 
   asked-fit : FitSide (b .side i) → FitRequest (asked t k n (b .side i))
-  unfolding refusal refusals rise testOf asked mayStart
+  unfolding refusal refusals rise testOf asked
   asked-fit f =
       let may = not-false (mayStart (thePlan b) ((thePlan b) .entries) i t n) (no-row 25 (refusals room b (Request i t k n)) 0 refl h) in
-      let (e, m, g) = any-elim _ ((thePlan b) .entries) may in
-      let a = both-true (eqb i (e .initiator)) (permits (thePlan b) e t n) g in
+      let (e, m, own, fit) = permitted-by (thePlan b) ((thePlan b) .entries) i t n may in
       record {
-        target = ok .targets e m t (permits-target (thePlan b) e t n (a .1));
+        target = ok .targets e m t (permits-target (thePlan b) e t n fit);
         kind = ltb-false 1 k (no-row 23 (refusals room b (Request i t k n)) 0 refl h);
         length = ltb-false 4096 n (no-row 24 (refusals room b (Request i t k n)) 0 refl h);
         number = f .next;

@@ -4,9 +4,9 @@ use mathlib.Core.Logic.{_≢_}
 use mathlib.Core.List.{List, List·Memᴰ, List·Memᴰ·not-nil}
 use mathlib.Core.Option.{some}
 use mathlib.Core.Bool.{true}
-use Prim.Native.Nat.{ℕ, _+_, _-_, _%_, _<_}
+use Prim.Native.Nat.{ℕ, _+_, _-_, _*_, _%_, _≤_, _<_}
 use native.Mathlib.Omega.{arith}
-use borrow.Author.Tests.{lt-ltb}
+use borrow.Author.Tests.{leb-true, lt-ltb}
 use Rattle.lists.specs.Search.{any, isIn, below64}
 use Rattle.lists.specs.laws.Bools.{both-true, not-both}
 use Rattle.lists.specs.laws.Search.{find-some, find-has, keep-none, isIn-elim}
@@ -36,6 +36,11 @@ unfolding permits
 permits-target p e t n h = isIn-elim t (e .targets) ((both-true (isIn t (e .targets)) (fits p e t n) h) .0)
 
 module _ (p : Plan) (ok : Sound p) (e : Entry) (me : List·Memᴰ e (p .entries)) where
+  -- what it permits has at most 256 data bytes for each of at most 16 slots
+  pub permits-short : (t n : ℕ) → permits p e t n ≡ true → n ≤ 4096
+  unfolding permits fits
+  permits-short t n h = omega (arith, leb-true n (256 * e .span) ((both-true (isIn t (e .targets)) (fits p e t n) h) .1), ok .spans e me)
+
   pub its-initiator : List·Memᴰ (e .initiator) (initiators p)
   its-initiator = in-initiators p (e .initiator) (ok .below e me) (ok .initiator e me)
 

@@ -1,13 +1,15 @@
 -- A request, row by row of the refusals; where the plan permits it, what is told of its initiator's row.
-use mathlib.Core.Path.{_≡_, refl, sym}
+use mathlib.Core.Path.{_≡_, refl, sym, _∙_}
 use mathlib.Core.List.{List}
 use mathlib.Core.Option.{Option, some}
 use mathlib.Core.Bool.{Bool, true, false, cond}
 use Prim.Native.Nat.{ℕ, _≤_, _<_}
+use lib.Dec.{eqb, ltb}
 use borrow.Author.Tests.{lt-ltb, le-ltb}
 use Rattle.lists.specs.Search.{isSome}
 use Rattle.lists.specs.Rows.{firstOf}
 use Rattle.lists.specs.Place.{atPlace}
+use Rattle.lists.specs.laws.Bools.{cond-cases}
 use Rattle.plan_rules.specs.Plan.{Plan}
 use Rattle.plan_rules.specs.Meaning.{isInitiator, initiators}
 use Rattle.plan_view.specs.View.{Timed}
@@ -21,6 +23,7 @@ use Rattle.box_rules.specs.Refuse.{refusal, refusals, mayStart}
 use Rattle.box_rules.specs.Step.{step, accepts}
 use Rattle.box_rules.specs.laws.Fit.{FitSide}
 use Rattle.box_rules.specs.laws.Steps.{step-accepted}
+use Rattle.box_rules.specs.laws.Permitted.{permitted-short}
 use Rattle.initiators.specs.Run.{initiatorOf, sideOf, changed, rowsWith}
 use Rattle.initiators.specs.laws.RunSides.{initiator-at, on-side, runs-kept, runs-changed}
 use Rattle.asking.specs.Sides.{isFull, askedAnswer, askedSide}
@@ -28,6 +31,7 @@ use Rattle.initiators.specs.Memory.{Finds, Answers}
 use Rattle.initiators.specs.laws.Found.{Rowed, plan-by-row, is-initiator, its-row, no-initiator}
 use Rattle.initiators.specs.laws.Refused.{refuses}
 use Rattle.requests.specs.NoRow.{noRow}
+use Rattle.requests.specs.NotPermitted.{notPermitted}
 use Rattle.requests.proofs.no_row.Strangers.{refused-strange}
 use Rattle.asking.specs.Sides.{Tried}
 
@@ -66,39 +70,38 @@ module _
       unfolding refusal refusals firstOf noPlan
       other-kind h = refuses room b w (Request i t k n) 23 refl (rw (there, own, lt-ltb 1 k h)) run last (f .runs)
 
-      module _ (kind : k ≤ 1) where
-        pub too-long : 4096 < n → Gives (Refused 24) run
-        unfolding refusal refusals firstOf noPlan
-        too-long h = refuses room b w (Request i t k n) 24 refl (rw (there, own, le-ltb 1 k kind, lt-ltb 4096 n h)) run last (f .runs)
+      module _ (kind : k ≤ 1) (y : Bool) (tried : Tried spans aims row t n y) where
+        may : mayStart (thePlan b) ((thePlan b) .entries) i t n ≡ y
+        unfolding thePlan
+        may = sym (tried (thePlan b) i (f .plan .sound) (f .plan .spans) (f .plan .aims) at)
 
-        module _ (short : n ≤ 4096) (y : Bool) (tried : Tried spans aims row t n y) where
-          may : mayStart (thePlan b) ((thePlan b) .entries) i t n ≡ y
-          unfolding thePlan
-          may = sym (tried (thePlan b) i (f .plan .sound) (f .plan .spans) (f .plan .aims) at)
+        pub barred : y ≡ false → (r : Answer) → r ≡ notPermitted n → Gives r run
+        unfolding refusal refusals firstOf noPlan notPermitted
+        barred h r is =
+            let some-row = cond-cases (λ (m : ℕ). eqb m 0 ≡ false) (ltb 4096 n) 24 25 (λ _. refl) (λ _. refl) in
+            rw is (refuses room b w (Request i t k n) _ some-row (rw (there, own, le-ltb 1 k kind, may, h)) run last (f .runs))
 
-          pub barred : y ≡ false → Gives (Refused 25) run
-          unfolding refusal refusals firstOf noPlan
-          barred h = refuses room b w (Request i t k n) 25 refl (rw (there, own, le-ltb 1 k kind, le-ltb 4096 n short, may, h)) run last (f .runs)
+        module _ (permitted : y ≡ true) where
+          last-row : (z : Bool) → isFull (b .side i) ≡ z → refusal room b (Request i t k n) ≡ cond z 26 0
+          unfolding refusal refusals firstOf noPlan isFull
+          last-row z h =
+              let short = permitted-short (thePlan b) (f .fit .sound) i t n (may ∙ permitted) in
+              rw (there, own, le-ltb 1 k kind, le-ltb 4096 n short, may, permitted, h)
 
-          module _ (permitted : y ≡ true) where
-            last-row : (z : Bool) → isFull (b .side i) ≡ z → refusal room b (Request i t k n) ≡ cond z 26 0
-            unfolding refusal refusals firstOf noPlan isFull
-            last-row z h = rw (there, own, le-ltb 1 k kind, le-ltb 4096 n short, may, permitted, h)
-
-            pub asks : (r : Answer) (run′ : List ℕ)
-                → ((m : ℕ → ℕ) (s : ℕ → Side) → m row ≡ i → ((j : ℕ) → FitSide (s j)) → run ≡ rowsWith m s → (r ≡ askedAnswer (s row)) × (run′ ≡ rowsWith m (changed row (askedSide t k n (s row)) s)))
-                → Gives r run′
-            unfolding askedAnswer askedSide accepts
-            asks r run′ does =
-                go (isFull (b .side i)) refl
-                (on-side b run last (f .runs) i row at askedAnswer (askedSide t k n) r run′ (f .fit) (λ s. does (initiatorOf (thePlan b)) s (initiator-at (thePlan b) row i at)))
-              where
-                go : (z : Bool) → isFull (b .side i) ≡ z
-                    → (r ≡ askedAnswer (b .side i)) × (run′ ≡ rowsWith (initiatorOf (thePlan b)) (changed row (askedSide t k n (b .side i)) (sideOf (thePlan b) (b .side)))) → Gives r run′
-                go true e h =
-                    let (a, m) = rw (e, askedAnswer, askedSide) at h in
-                    rw a (refuses room b w (Request i t k n) 26 refl (last-row true e) run′ last (runs-kept b run last (f .runs) i row at run′ m))
-                go false e h =
-                    let (a, m) = rw (e, askedAnswer, askedSide) at h in
-                    rw (step-accepted room b w (Request i t k n) (last-row false e), a)
-                    (record { answer = refl; runs = runs-changed b run last (f .runs) i row at (join t k n) run′ m })
+          pub asks : (r : Answer) (run′ : List ℕ)
+              → ((m : ℕ → ℕ) (s : ℕ → Side) → m row ≡ i → ((j : ℕ) → FitSide (s j)) → run ≡ rowsWith m s → (r ≡ askedAnswer (s row)) × (run′ ≡ rowsWith m (changed row (askedSide t k n (s row)) s)))
+              → Gives r run′
+          unfolding askedAnswer askedSide accepts
+          asks r run′ does =
+              go (isFull (b .side i)) refl
+              (on-side b run last (f .runs) i row at askedAnswer (askedSide t k n) r run′ (f .fit) (λ s. does (initiatorOf (thePlan b)) s (initiator-at (thePlan b) row i at)))
+            where
+              go : (z : Bool) → isFull (b .side i) ≡ z
+                  → (r ≡ askedAnswer (b .side i)) × (run′ ≡ rowsWith (initiatorOf (thePlan b)) (changed row (askedSide t k n (b .side i)) (sideOf (thePlan b) (b .side)))) → Gives r run′
+              go true e h =
+                  let (a, m) = rw (e, askedAnswer, askedSide) at h in
+                  rw a (refuses room b w (Request i t k n) 26 refl (last-row true e) run′ last (runs-kept b run last (f .runs) i row at run′ m))
+              go false e h =
+                  let (a, m) = rw (e, askedAnswer, askedSide) at h in
+                  rw (step-accepted room b w (Request i t k n) (last-row false e), a)
+                  (record { answer = refl; runs = runs-changed b run last (f .runs) i row at (join t k n) run′ m })
