@@ -7,14 +7,12 @@ ghost use Rattle.lists.specs.Puts.{Puts};
 ghost use Rattle.plan_rules.specs.Plan.{Plan};
 ghost use Rattle.plan_rules.specs.Meaning.{initiators};
 ghost use Rattle.plan_rules.specs.laws.Sound.{Sound};
-ghost use Rattle.plan_memory.specs.Memory.{numbersWith};
 ghost use Rattle.box_rules.specs.State.{Side};
 ghost use Rattle.box_rules.specs.Turn.{aged};
 ghost use Rattle.box_rules.specs.Records.{recordBytes, lateRecord};
 ghost use Rattle.box_rules.specs.laws.Fit.{FitSide};
 ghost use Rattle.initiators.specs.Run.{rowOf, changed, rowsWith, runOf};
 ghost use Rattle.initiators.specs.Row.{IsRow};
-use plan_view::row::count_of;
 use records::put_full;
 use turns::age_row;
 
@@ -50,9 +48,8 @@ fn late_at(
     late_row(&mut run[row * 12..row * 12 + 12], out, at, v, in_sequence)
 }
 
-// Lateness of every initiator.
+// Lateness of every initiator. Rows behind the initiators have nothing live.
 pub fn report_late(
-    numbers: &[u32; 6],
     run: &mut [u64; 96],
     out: &mut [u8],
     at: usize,
@@ -60,18 +57,13 @@ pub fn report_late(
     in_sequence: bool,
 ) -> usize
     requires { ⌜ at + 64 ≤ length (now out) ⌝ }
-    ensures { λ r. ⌜ ((clock size : ℕ) (p : Plan) (side : ℕ → Side) → Sound p → now (numbers .entry) ≡ numbersWith size p →
-        ((i : ℕ) → FitSide (side i)) → now (run .entry) ≡ runOf p side →
+    ensures { λ r. ⌜ ((clock : ℕ) (p : Plan) (side : ℕ → Side) → Sound p → ((i : ℕ) → FitSide (side i)) → now (run .entry) ≡ runOf p side →
         (now (run .exit) ≡ runOf p (λ (i : ℕ). aged «in_sequence» (side i)))
         × Puts (now (out .entry)) at (flatMap (recordBytes clock) (flatMap (λ (i : ℕ). lateRecord «in_sequence» i v ((side i) .live)) (initiators p))) (now (out .exit)) r) × (r ≤ at + 64) ⌝ }
 {
-    let count = count_of(numbers);
     let mut k = at;
     let mut row = 0;
     while row < 8 {
-        if count <= row {
-            return k;
-        }
         k = late_at(run, row, out, k, v, in_sequence);
         row += 1;
     }

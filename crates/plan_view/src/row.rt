@@ -1,19 +1,10 @@
 // The rows of the initiators.
 ghost use mathlib.Core.Path.{_≡_};
 ghost use Prim.Native.Nat.{ℕ};
-ghost use lib.ListN.{length};
 ghost use Rattle.plan_rules.specs.Plan.{Plan};
-ghost use Rattle.plan_rules.specs.Meaning.{initiators};
 ghost use Rattle.plan_rules.specs.laws.Sound.{Sound};
 ghost use Rattle.plan_memory.specs.Memory.{rowsOf, ofRow, numbersWith};
 ghost use Rattle.plan_view.specs.View.{rowFor};
-
-// How many initiators there are.
-pub fn count_of(numbers: &[u32; 6]) -> usize
-    ensures { λ r. ⌜ ((size : ℕ) (p : Plan) → Sound p → now (numbers .entry) ≡ numbersWith size p → r ≡ length (initiators p)) ⌝ }
-{
-    plan_memory::at_most(numbers[2], 8)
-}
 
 // The row of initiator i, 8 where the plan has no such initiator.
 pub fn row_of(rows: &[u8; 8], numbers: &[u32; 6], i: u8) -> usize

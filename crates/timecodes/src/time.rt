@@ -28,7 +28,6 @@ use watchdog::watch::fed_with;
 fn run_on(
     spans: &[u8; 512],
     aims: &[u64; 512],
-    numbers: &[u32; 6],
     run: &mut [u64; 96],
     last: u8,
     w: Watchdog,
@@ -37,7 +36,7 @@ fn run_on(
     records: &mut [u8],
 ) -> usize
     requires { ⌜ 136 ≤ length (now records) ⌝ }
-    ensures { λ r. ⌜ ((b : Box) (rows : List ℕ) → Finds b rows (now (spans .entry)) (now (aims .entry)) (now (numbers .entry)) (now (run .entry)) (last ∷ []) →
+    ensures { λ r. ⌜ ((b : Box) (rows numbers : List ℕ) → Finds b rows (now (spans .entry)) (now (aims .entry)) numbers (now (run .entry)) (last ∷ []) →
         (now (run .exit) ≡ runOf (thePlan b) (ticked b byte .side))
         × Puts (now (records .entry)) 0 (flatMap (recordBytes clock) (rules-records.records b w byte clock)) (now (records .exit)) r) ⌝ }
 {
@@ -45,9 +44,9 @@ fn run_on(
     let q = in_sequence(last, byte);
     let watched = put_watchdog(records, 0, w, clock, v);
     let sequenced = put_sequence(records, watched, q, v);
-    let late = report_late(numbers, run, records, sequenced, v, q);
+    let late = report_late(run, records, sequenced, v, q);
     if q {
-        return visit_all(spans, aims, numbers, run, records, late, v);
+        return visit_all(spans, aims, run, records, late, v);
     }
     late
 }
@@ -73,7 +72,7 @@ pub fn time_code(
             watchdog: w,
         };
     }
-    let end = run_on(spans, aims, numbers, run, last[0], w, byte, clock, records);
+    let end = run_on(spans, aims, run, last[0], w, byte, clock, records);
     last[0] = byte % 64 + 1;
     Stepped {
         answer: Answer::Recorded {

@@ -8,7 +8,7 @@ ghost use Rattle.lists.specs.Puts.{Puts};
 ghost use Rattle.plan_rules.specs.Plan.{Plan, Entry};
 ghost use Rattle.plan_rules.specs.Meaning.{initiators, entryAt};
 ghost use Rattle.plan_rules.specs.laws.Sound.{Sound};
-ghost use Rattle.plan_memory.specs.Memory.{spansOf, aimsOf, numbersWith};
+ghost use Rattle.plan_memory.specs.Memory.{spansOf, aimsOf};
 ghost use Rattle.plan_view.specs.View.{Tells};
 ghost use Rattle.box_rules.specs.State.{Side};
 ghost use Rattle.box_rules.specs.Turn.{starting, begun};
@@ -20,7 +20,6 @@ use initiators::row::has_live;
 use initiators::row::live_word;
 use plan_view::entry::span_at;
 use plan_view::entry::targets_at;
-use plan_view::row::count_of;
 use records::put_full;
 use turns::start_row;
 
@@ -61,30 +60,25 @@ fn visit_at(
     visit_row(&mut run[row * 12..row * 12 + 12], out, at, v, targets, span)
 }
 
-// The visit of every entry that stands at v.
+// The visit of every entry that stands at v. Rows behind the initiators have no entry.
 pub fn visit_all(
     spans: &[u8; 512],
     aims: &[u64; 512],
-    numbers: &[u32; 6],
     run: &mut [u64; 96],
     out: &mut [u8],
     at: usize,
     v: u8,
 ) -> usize
     requires { ⌜ at + 64 ≤ length (now out) ⌝ }
-    ensures { λ r. ⌜ ((clock size : ℕ) (p : Plan) (side : ℕ → Side) → Sound p → now (spans .entry) ≡ spansOf p → now (aims .entry) ≡ aimsOf p →
-        now (numbers .entry) ≡ numbersWith size p → ((i : ℕ) → FitSide (side i)) → now (run .entry) ≡ runOf p side →
+    ensures { λ r. ⌜ ((clock : ℕ) (p : Plan) (side : ℕ → Side) → Sound p → now (spans .entry) ≡ spansOf p → now (aims .entry) ≡ aimsOf p →
+        ((i : ℕ) → FitSide (side i)) → now (run .entry) ≡ runOf p side →
         (now (run .exit) ≡ runOf p (λ (i : ℕ). begun (side i) (starting p (entryAt (p .entries) i v) (side i))))
         × Puts (now (out .entry)) at (flatMap (recordBytes clock) (flatMap (λ (i : ℕ).
         startRecord i v (starting p (entryAt (p .entries) i v) (side i)) ++ stillRecord (entryAt (p .entries) i v) i v ((side i) .live)) (initiators p))) (now (out .exit)) r) ⌝ }
 {
-    let count = count_of(numbers);
     let mut k = at;
     let mut row = 0;
     while row < 8 {
-        if count <= row {
-            return k;
-        }
         let span = span_at(spans, row, v);
         if span != 0 {
             k = visit_at(run, row, out, k, v, targets_at(aims, row, v), span);

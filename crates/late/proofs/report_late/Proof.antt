@@ -12,27 +12,15 @@ use Rattle.late.proofs.report_late.Statement.{statement}
 use Rattle.late.proofs.report_late.Tie as tie
 
 abbrev Inv-loop : tie.InvT-loop
-Inv-loop numbers run₀ out₀ at v in-sequence count k₀ row₀ run out k row = (row ≤ 8) × (length out ≡ length out₀) × (k ≤ at + 8 * row) × LateSwept numbers run₀ v in-sequence out₀ at run out k row
+Inv-loop run₀ out₀ at v in-sequence k₀ row₀ run out k row = (row ≤ 8) × (length out ≡ length out₀) × (k ≤ at + 8 * row) × LateSwept run₀ v in-sequence out₀ at run out k row
 
 abbrev μ-loop : tie.MeasureT-loop
-μ-loop numbers run₀ out₀ at v in-sequence count k₀ row₀ run out k row = 8 - row
-
-count-of-requires : tie.Need-count-of-requires Inv-loop μ-loop
-count-of-requires c κs = search needs
+μ-loop run₀ out₀ at v in-sequence k₀ row₀ run out k row = 8 - row
 
 loop-holds : tie.Need-loop-holds Inv-loop μ-loop
 loop-holds c =
-    let a = c .before .before .args in
+    let a = c .before .args in
     (omega arith, refl, omega arith, λ x. swept-begin x (λ n. aged (a .in-sequence) (x .side n)) (λ n. lateRecord (a .in-sequence) n (a .v) ((x .side n) .live)) (a .out .now) (a .at))
-
-same-length : tie.Need-same-length Inv-loop μ-loop
-same-length c = c .before .before .loop .inv .1
-
-returns : tie.Need-returns Inv-loop μ-loop
-returns c =
-    let l = c .before .before in
-    let a = l .before .before .before .args in
-    (late-done (a .v) (a .in-sequence) (l .loop .inv .3) (λ x. omega (arith, l .before .count-of .ensures (x .size) (x .plan) (x .sound) (x .numbers))), search needs)
 
 late-at-requires : tie.Need-late-at-requires Inv-loop μ-loop
 late-at-requires c κs = search needs
@@ -46,19 +34,18 @@ loop-less c = search needs
 loop-again : tie.Need-loop-again Inv-loop μ-loop
 loop-again c =
     let m = c .before .before .late-at in
-    let d = c .before .before .before .before .before in
-    let l = d .before .before in
-    let a = l .before .before .before .args in
-    (omega arith, search needs, search needs, late-next (a .v) (a .in-sequence) (l .loop .inv .3) (l .before .count-of .result) (l .before .count-of .ensures) (d .if1 .left) (m .last .0) (m .last .1 .1 .0) (m .result) (m .ensures .0))
+    let l = c .before .before .before .before .before .before in
+    let a = l .before .before .args in
+    (omega arith, search needs, search needs, late-next (a .v) (a .in-sequence) (l .loop .inv .3) (m .last .0) (m .last .1 .1 .0) (m .result) (m .ensures .0))
 
-same-length-2 : tie.Need-same-length-2 Inv-loop μ-loop
-same-length-2 c = c .before .loop .inv .1
+same-length : tie.Need-same-length Inv-loop μ-loop
+same-length c = c .before .loop .inv .1
 
-returns-2 : tie.Need-returns-2 Inv-loop μ-loop
-returns-2 c =
+returns : tie.Need-returns Inv-loop μ-loop
+returns c =
     let l = c .before in
-    let a = l .before .before .before .args in
-    (late-done (a .v) (a .in-sequence) (l .loop .inv .3) (λ x. omega (arith, x .sound .eight)), search needs)
+    let a = l .before .before .args in
+    (late-done (a .v) (a .in-sequence) (l .loop .inv .3) (search needs), search needs)
 
 pub report-late-spec : {M : Type 1} → statement M
 report-late-spec =
@@ -66,13 +53,10 @@ report-late-spec =
     (tie.spec
     Inv-loop
     μ-loop
-    count-of-requires
     loop-holds
-    same-length
-    returns
     late-at-requires
     add-row
     loop-less
     loop-again
-    same-length-2
-    returns-2)
+    same-length
+    returns)

@@ -23,9 +23,6 @@ unfolding numbersWith
 counted size p numbers is = rw is
 
 module _ (p : Plan) (ok : Sound p) where
-  pub count-told : (size : ℕ) (numbers : List ℕ) → numbers ≡ numbersWith size p → (r : ℕ) → r ≡ min (nth numbers 2) 8 → r ≡ length (initiators p)
-  count-told size numbers is r e = omega (arith, counted size p numbers is, ok .eight)
-
   pub initiator-told : (rows : List ℕ) → rows ≡ rowsOf p → (r : ℕ) → nth rows r ≡ ofRow p r (λ (i : ℕ). i)
   initiator-told rows is r = rw is (row-cell p r)
 

@@ -1,6 +1,6 @@
--- What the span and the targets read at an initiator's row and a slot tell: the entry that stands there, or that none does.
+-- What the span and the targets read at a row and a slot tell: the entry that stands there, or that none does.
 use mathlib.Core.Path.{_≡_, refl, sym, ap, _∙_}
-use mathlib.Core.Logic.{_≢_}
+use mathlib.Core.Logic.{_≢_, _⊎_, inl, inr, ⊎-elim}
 use mathlib.Core.List.{List·Memᴰ}
 use mathlib.Core.Option.{Option, none, some}
 use mathlib.Core.Bool.{Bool, true, false, _&&_, and-false}
@@ -18,7 +18,7 @@ use Rattle.plan_rules.specs.Meaning.{initiators, entryAt}
 use Rattle.plan_rules.specs.laws.Sound.{Sound}
 use Rattle.plan_rules.specs.laws.Runs.{entry-at}
 use Rattle.plan_memory.specs.Memory.{ofRow, spanOf, aimOf}
-use Rattle.plan_memory.specs.laws.InRows.{of-row}
+use Rattle.plan_memory.specs.laws.InRows.{of-row, of-no-row}
 use Rattle.plan_view.specs.View.{Tells}
 
 -- what is read at row r and slot v
@@ -27,6 +27,10 @@ spanRead p r v = ofRow p r (λ (i : ℕ). spanOf (entryAt (p .entries) i v))
 
 abbrev pub targetsRead : Plan → ℕ → ℕ → ℕ
 targetsRead p r v = ofRow p r (λ (i : ℕ). aimOf (entryAt (p .entries) i v))
+
+-- the entry that stands there, none also where the row has no initiator
+unfoldable pub entryIn : Plan → ℕ → ℕ → Option Entry
+entryIn p r v = elim (atPlace r (initiators p)) [ none ↦ none | some i ↦ entryAt (p .entries) i v ]
 
 module _ (p : Plan) (ok : Sound p) (r i : ℕ) (row : atPlace r (initiators p) ≡ some i) (v span : ℕ) (is : span ≡ spanRead p r v) where
   span-is : (o : Option Entry) → entryAt (p .entries) i v ≡ o → span ≡ spanOf o
@@ -53,17 +57,25 @@ module _ (p : Plan) (ok : Sound p) (r i : ℕ) (row : atPlace r (initiators p) �
   unfolding spanOf
   entry-none h = span-is none h
 
-  -- the same, from the span that is read
-  pub some-read : span ≢ 0 → (targets : ℕ) → targets ≡ targetsRead p r v → (e : Entry) × (entryAt (p .entries) i v ≡ some e) × Tells targets span e
-  some-read d targets ts = go (entryAt (p .entries) i v) refl
-    where
-      go : (o : Option Entry) → entryAt (p .entries) i v ≡ o → (e : Entry) × (o ≡ some e) × Tells targets span e
-      go none h = absurd (d (entry-none h))
-      go (some e) h = (e, refl, (entry-told e h targets ts) .1)
+-- the same of every row: an entry stands there, and the span is not 0, or none does, and it is 0
+module _ (p : Plan) (ok : Sound p) (r v span : ℕ) (is : span ≡ spanRead p r v) where
+  abbrev Told : ℕ → Option Entry → Type 0
+  Told targets o = ((e : Entry) × (o ≡ some e) × ((span ≢ 0) × Tells targets span e)) ⊎ ((o ≡ none) × (span ≡ 0))
 
-  pub none-read : span ≡ 0 → entryAt (p .entries) i v ≡ none
-  none-read z = go (entryAt (p .entries) i v) refl
+  row-told : (targets : ℕ) → targets ≡ targetsRead p r v → Told targets (entryIn p r v)
+  unfolding entryIn
+  row-told targets ts = row (atPlace r (initiators p)) refl
     where
-      go : (o : Option Entry) → entryAt (p .entries) i v ≡ o → o ≡ none
-      go none h = refl
-      go (some e) h = absurd ((entry-told e h (targetsRead p r v) refl) .0 z)
+      slot : (i : ℕ) → atPlace r (initiators p) ≡ some i → (o : Option Entry) → entryAt (p .entries) i v ≡ o → Told targets o
+      slot i at none h = inr (refl, entry-none p ok r i at v span is h)
+      slot i at (some e) h = inl (e, refl, entry-told p ok r i at v span is e h targets ts)
+
+      row : (o : Option ℕ) → atPlace r (initiators p) ≡ o → Told targets (elim o [ none ↦ none | some i ↦ entryAt (p .entries) i v ])
+      row none at = inr (refl, is ∙ of-no-row p r _ at)
+      row (some i) at = slot i at (entryAt (p .entries) i v) refl
+
+  pub some-read : span ≢ 0 → (targets : ℕ) → targets ≡ targetsRead p r v → (e : Entry) × (entryIn p r v ≡ some e) × Tells targets span e
+  some-read d targets ts = ⊎-elim (λ s. (s .0, s .1, s .2 .1)) (λ n. absurd (d (n .1))) (row-told targets ts)
+
+  pub none-read : span ≡ 0 → entryIn p r v ≡ none
+  none-read z = ⊎-elim (λ s. absurd (s .2 .0 z)) (λ n. n .0) (row-told (targetsRead p r v) refl)

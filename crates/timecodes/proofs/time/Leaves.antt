@@ -10,8 +10,7 @@ use Rattle.lists.specs.Rows.{testOf}
 use Rattle.lists.specs.Puts.{Puts}
 use Rattle.lists.specs.laws.Rows.{rise, no-row}
 use Rattle.lists.specs.laws.Stores.{put-front}
-use Rattle.plan_rules.specs.Canon.{written}
-use Rattle.plan_memory.specs.Memory.{spansOf, aimsOf, numbersWith, numbersOf}
+use Rattle.plan_memory.specs.Memory.{spansOf, aimsOf}
 use Rattle.box_rules.specs.declared.Event.the-variants.{TimeCode}
 use Rattle.box_rules.specs.declared.Answer.the-variants.{Refused, Recorded}
 use Rattle.box_rules.specs.declared.Watchdog.{Watchdog}
@@ -33,10 +32,6 @@ module _ {b : Box} {rows spans aims numbers run last : List ℕ} (f : Finds b ro
   pub aims-held : aims ≡ aimsOf (thePlan b)
   unfolding thePlan
   aims-held = f .plan .aims
-
-  pub numbers-held : numbers ≡ numbersWith (length (written (thePlan b))) (thePlan b)
-  unfolding thePlan numbersOf
-  numbers-held = f .plan .timed .numbers
 
   pub last-told : getD last 0 0 ≡ lastOf (b .last)
   last-told = ap (λ (l : List ℕ). getD l 0 0) (f .runs .last)

@@ -10,26 +10,15 @@ use Rattle.visits.proofs.visit_all.Statement.{statement}
 use Rattle.visits.proofs.visit_all.Tie as tie
 
 abbrev Inv-loop : tie.InvT-loop
-Inv-loop spans aims numbers run₀ out₀ at v count k₀ row₀ run out k row = (row ≤ 8) × VisitStands spans aims numbers run₀ v out₀ at run out k row
+Inv-loop spans aims run₀ out₀ at v k₀ row₀ run out k row = (row ≤ 8) × VisitStands spans aims run₀ v out₀ at run out k row
 
 abbrev μ-loop : tie.MeasureT-loop
-μ-loop spans aims numbers run₀ out₀ at v count k₀ row₀ run out k row = 8 - row
-
-count-of-requires : tie.Need-count-of-requires Inv-loop μ-loop
-count-of-requires c κs = search needs
+μ-loop spans aims run₀ out₀ at v k₀ row₀ run out k row = 8 - row
 
 loop-holds : tie.Need-loop-holds Inv-loop μ-loop
 loop-holds c =
-    let a = c .before .before .args in
+    let a = c .before .args in
     (omega arith, (refl, omega arith, λ x es ea. swept-begin x (newSide x (a .v)) (newRecords x (a .v)) (a .out .now) (a .at)))
-
-same-length : tie.Need-same-length Inv-loop μ-loop
-same-length c = c .before .before .loop .inv .1 .0
-
-returns : tie.Need-returns Inv-loop μ-loop
-returns c =
-    let l = c .before .before in
-    visit-done (l .before .before .before .args .v) (l .loop .inv .1) (λ x. omega (arith, l .before .count-of .ensures (x .size) (x .plan) (x .sound) (x .numbers)))
 
 span-at-requires : tie.Need-span-at-requires Inv-loop μ-loop
 span-at-requires c κs = search needs
@@ -49,26 +38,24 @@ loop-less c = search needs
 loop-again : tie.Need-loop-again Inv-loop μ-loop
 loop-again c =
     let s = c .before .span-at in
-    let d = c .before .before in
-    let l = d .before .before in
-    let a = l .before .before .before .args in
-    let n = l .before .count-of in (
+    let l = c .before .before .before in
+    let a = l .before .before .args in (
       omega arith,
       ⊎-elim
-          {C = VisitStands (a .spans .now) (a .aims .now) (a .numbers .now) (a .run .now) (a .v) (a .out .now) (a .at) (c .if2 .run) (c .if2 .out) (c .if2 .k) (l .loop .row + 1)}
-          (λ w. visit-one (a .v) (l .loop .inv .1) (n .result) (n .ensures) (d .if1 .left) (s .result) (s .ensures) (w .0 .taken) (w .3 .result) (w .3 .ensures) (w .4 .last .0) (w .4 .last .1 .1 .0) (w .4 .result) (w .4 .ensures .0)
-          (w .4 .kept .1 .1 .0) (w .4 .ensures .1) (c .if2 .run) (c .if2 .out) (c .if2 .k) (w .7) (w .8) (w .9))
-          (λ w. visit-no-one (a .v) (l .loop .inv .1) (n .result) (n .ensures) (d .if1 .left) (s .result) (s .ensures) (w .0 .left) (c .if2 .run) (c .if2 .out) (c .if2 .k) (w .1) (w .2) (w .3))
-          (c .if2 .came),
+          {C = VisitStands (a .spans .now) (a .aims .now) (a .run .now) (a .v) (a .out .now) (a .at) (c .if1 .run) (c .if1 .out) (c .if1 .k) (l .loop .row + 1)}
+          (λ w. visit-one (a .v) (l .loop .inv .1) (s .result) (s .ensures) (w .0 .taken) (w .3 .result) (w .3 .ensures) (w .4 .last .0) (w .4 .last .1 .1 .0) (w .4 .result) (w .4 .ensures .0)
+          (w .4 .kept .1 .1 .0) (w .4 .ensures .1) (c .if1 .run) (c .if1 .out) (c .if1 .k) (w .7) (w .8) (w .9))
+          (λ w. visit-no-one (a .v) (l .loop .inv .1) (s .result) (s .ensures) (w .0 .left) (c .if1 .run) (c .if1 .out) (c .if1 .k) (w .1) (w .2) (w .3))
+          (c .if1 .came),
     )
 
-same-length-2 : tie.Need-same-length-2 Inv-loop μ-loop
-same-length-2 c = c .before .loop .inv .1 .0
+same-length : tie.Need-same-length Inv-loop μ-loop
+same-length c = c .before .loop .inv .1 .0
 
-returns-2 : tie.Need-returns-2 Inv-loop μ-loop
-returns-2 c =
+returns : tie.Need-returns Inv-loop μ-loop
+returns c =
     let l = c .before in
-    visit-done (l .before .before .before .args .v) (l .loop .inv .1) (λ x. omega (arith, x .sound .eight))
+    visit-done (l .before .before .args .v) (l .loop .inv .1) (search needs)
 
 pub visit-all-spec : {M : Type 1} → statement M
 visit-all-spec =
@@ -76,15 +63,12 @@ visit-all-spec =
     (tie.spec
     Inv-loop
     μ-loop
-    count-of-requires
     loop-holds
-    same-length
-    returns
     span-at-requires
     targets-at-requires
     visit-at-requires
     add-row
     loop-less
     loop-again
-    same-length-2
-    returns-2)
+    same-length
+    returns)

@@ -1,12 +1,10 @@
 -- `run_on` meets its contract: each part of the records behind the one before. Assumes nothing.
 use native.Mathlib.Omega.{arith}
-use lib.ListN.{length}
-use Rattle.plan_rules.specs.Canon.{written}
 use Rattle.box_rules.specs.State.{thePlan}
 use Rattle.box_rules.specs.Turn.{valueOf, aged}
 use Rattle.box_rules.specs.laws.Fit.{aged-fit}
 use Rattle.timecodes.proofs.time.Parts.{ran-in, ran-out}
-use Rattle.timecodes.proofs.time.Leaves.{spans-held, aims-held, numbers-held, last-told}
+use Rattle.timecodes.proofs.time.Leaves.{spans-held, aims-held, last-told}
 use borrow.Author.Needs.{needs}
 use Rattle.timecodes.proofs.time.run_on.Statement.{statement}
 use Rattle.timecodes.proofs.time.run_on.Tie as tie
@@ -47,11 +45,10 @@ returns c =
     let u = s .before .before .before .before in
     let q = u .before .before .in-sequence in
     let a = u .before .before .before .before .args in
-    λ b rows f.
-    let size = length (written (thePlan b)) in
-    let z = r .report-late .ensures .0 (a .clock) size (thePlan b) (b .side) (f .fit .sound) (numbers-held f) (f .fit .sides) (f .runs .run) in
+    λ b rows numbers f.
+    let z = r .report-late .ensures .0 (a .clock) (thePlan b) (b .side) (f .fit .sound) (f .fit .sides) (f .runs .run) in
     let y =
-    c .before .before .visit-all .ensures (a .clock) size (thePlan b) (λ i. aged (q .result) (b .side i)) (f .fit .sound) (spans-held f) (aims-held f) (numbers-held f)
+    c .before .before .visit-all .ensures (a .clock) (thePlan b) (λ i. aged (q .result) (b .side i)) (f .fit .sound) (spans-held f) (aims-held f)
     (λ i. aged-fit (q .result) (b .side i) (f .fit .sides i)) (z .0)
     in
     ran-in b (a .w) (a .byte) (a .clock) (q .result) (q .ensures (b .last) (last-told f)) (u .put-watchdog .ensures .0) (s .put-sequence .ensures .0 (a .clock)) (z .1) (d .if1 .taken) _ (y .0) _ _ (y .1)
@@ -67,9 +64,8 @@ returns-2 c =
     let u = s .before .before .before .before in
     let q = u .before .before .in-sequence in
     let a = u .before .before .before .before .args in
-    λ b rows f.
-    let size = length (written (thePlan b)) in
-    let z = r .report-late .ensures .0 (a .clock) size (thePlan b) (b .side) (f .fit .sound) (numbers-held f) (f .fit .sides) (f .runs .run) in
+    λ b rows numbers f.
+    let z = r .report-late .ensures .0 (a .clock) (thePlan b) (b .side) (f .fit .sound) (f .fit .sides) (f .runs .run) in
     ran-out b (a .w) (a .byte) (a .clock) (q .result) (q .ensures (b .last) (last-told f)) (u .put-watchdog .ensures .0) (s .put-sequence .ensures .0 (a .clock)) (z .1) (c .if1 .left) _ (z .0)
 
 pub run-on-spec : {M : Type 1} → statement M

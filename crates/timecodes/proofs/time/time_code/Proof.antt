@@ -42,7 +42,7 @@ returns-2 c =
     let r = d .before .refuse in
     let a = d .before .before .before .args in
     λ b rows f.
-    accepted f (a .w) (a .byte) (a .clock) (a .records .now) (sym (d .if1 .left) ∙ r .ensures .0 b (f .plan .timed) (a .clock)) _ _ _ _ (m .ensures b rows (handed f)) (c .fed-with .ensures)
+    accepted f (a .w) (a .byte) (a .clock) (a .records .now) (sym (d .if1 .left) ∙ r .ensures .0 b (f .plan .timed) (a .clock)) _ _ _ _ (m .ensures b rows _ (handed f)) (c .fed-with .ensures)
 
 pub time-code-spec : {M : Type 1} → statement M
 time-code-spec =
