@@ -11,6 +11,10 @@ listedFive w = w .last ∷ w .seen ∷ w .reported ∷ w .least ∷ w .greatest 
 unfoldable pub watchdogOf : List ℕ → Watchdog
 watchdogOf five = record { last = nth five 0; seen = nth five 1; reported = nth five 2; least = nth five 3; greatest = nth five 4 }
 
+-- with these five numbers' least and greatest: the plan's, which no event changes
+unfoldable pub timesOf : Watchdog → List ℕ → Watchdog
+timesOf w five = record { last = w .last; seen = w .seen; reported = w .reported; least = nth five 3; greatest = nth five 4 }
+
 -- these five and no more: `watchdogOf` tells every number of them
 abbrev pub AreFive : List ℕ → Type 0
 AreFive five = five ≡ listedFive (watchdogOf five)

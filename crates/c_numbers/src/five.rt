@@ -1,7 +1,7 @@
 // The watchdog's five numbers as C lends them.
 ghost use mathlib.Core.Path.{_≡_};
 ghost use mathlib.Core.Bool.{true};
-ghost use Rattle.c_numbers.specs.Five.{listedFive, watchdogOf};
+ghost use Rattle.c_numbers.specs.Five.{listedFive, watchdogOf, timesOf};
 use box_rules::Watchdog;
 
 // The watchdog of the five numbers.
@@ -46,7 +46,14 @@ pub fn put_watchdog(five: &mut [u32; 5], w: Watchdog)
     *five = [w.last, w.seen, w.reported, w.least, w.greatest];
 }
 
-// The same over the five numbers of a reading. Most change none, and then nothing is stored: the next reading need not wait for a store.
+// What a time-code changes of the five numbers. Least and greatest, the plan's, stay: they need not be kept at hand until then.
+pub fn put_times(five: &mut [u32; 5], w: Watchdog)
+    ensures { λ _. ⌜ now (five .exit) ≡ listedFive (timesOf w (now (five .entry))) ⌝ }
+{
+    *five = [w.last, w.seen, w.reported, five[3], five[4]];
+}
+
+// The five numbers after a reading. Most change none, and then nothing is stored: the next reading need not wait for a store.
 pub fn put_changed(five: &mut [u32; 5], w: Watchdog)
     ensures { λ _. ⌜ now (five .exit) ≡ listedFive w ⌝ }
 {

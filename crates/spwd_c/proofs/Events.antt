@@ -1,5 +1,5 @@
 -- The four events with the five numbers and the answer as numbers.
-use mathlib.Core.Path.{_≡_, refl}
+use mathlib.Core.Path.{_≡_, refl, sym, ap, _∙_}
 use mathlib.Core.List.{List}
 use Prim.Native.Nat.{ℕ}
 use lib.ListN.{length}
@@ -9,28 +9,24 @@ use Rattle.box_rules.specs.declared.Answer.{Answer}
 use Rattle.box_rules.specs.declared.Watchdog.{Watchdog}
 use Rattle.box_rules.specs.State.{Box}
 use Rattle.box_rules.specs.Answer.{values}
-use Rattle.box_rules.specs.Step.{step}
+use Rattle.box_rules.specs.Watch.{fed}
+use Rattle.box_rules.specs.Step.{step, accepts, Outcome}
+use Rattle.box_rules.specs.laws.Steps.{step-cases}
 use Rattle.initiators.specs.Memory.{Finds, Answers, Does}
 use Rattle.events.specs.Values.{listed}
 use Rattle.events.specs.laws.Events.{by-time-code, by-request, by-reply, by-reading}
-use Rattle.c_numbers.specs.Five.{listedFive, watchdogOf}
+use Rattle.c_numbers.specs.Five.{listedFive, watchdogOf, timesOf}
 use Rattle.c_numbers.specs.laws.Fives.{of-them, are-five}
 use Rattle.spwd_c.specs.Exports.{TimeCodes, Requests, Replies, Readings}
 
+-- a time-code keeps least and greatest
+times-kept : (room : ℕ) (b : Box) (five : List ℕ) (byte clock : ℕ) → let o = step room b (watchdogOf five) (TimeCode byte clock) in timesOf (o .watchdog) five ≡ o .watchdog
+unfolding timesOf watchdogOf accepts fed
+times-kept room b five byte clock =
+    step-cases room b (watchdogOf five) (TimeCode byte clock) (λ (o : Outcome). timesOf (o .watchdog) five ≡ o .watchdog) (λ _. refl) (λ _. refl)
+
 module _ {eight : List ℕ} (a : Answer) (told : eight ≡ listed (values a)) where
   module _ {five five′ : List ℕ} (w w′ : Watchdog) (before : w ≡ watchdogOf five) (after : five′ ≡ listedFive w′) where
-    pub time-codes : {spans aims numbers run last : List ℕ} {byte clock : ℕ} {records run′ last′ records′ : List ℕ}
-        → ((b : Box) (rows : List ℕ) → Finds b rows spans aims numbers run last → Does (step (length records) b w (TimeCode byte clock)) clock a w′ run′ last′ records records′)
-        → TimeCodes spans aims numbers run last five byte clock records run′ last′ five′ records′ eight
-    time-codes {records = records} {run′ = run′} {last′ = last′} does = record {
-      steps = record {
-        answer = a;
-        numbers = told;
-        does = λ rows b f. by-time-code (length records) b (watchdogOf five) _ a run′ last′ records _ _ (watchdogOf five′) _ refl (rw (before, of-them w′ after) at (does b rows f));
-      };
-      whole = are-five w′ after;
-    }
-
     pub readings : {numbers : List ℕ} {clock : ℕ}
         → ((b : Box) → Timed (b .plan) numbers → (room : ℕ) → (a ≡ (step room b w (Reading clock)) .answer) × (w′ ≡ (step room b w (Reading clock)) .watchdog))
         → Readings numbers five clock five′ eight
@@ -43,6 +39,26 @@ module _ {eight : List ℕ} (a : Answer) (told : eight ≡ listed (values a)) wh
             (rw (before, of-them w′ after) at (does b (f .plan .timed) (length records)));
       };
       whole = are-five w′ after;
+    }
+
+  module _ {five five′ : List ℕ} (w w′ : Watchdog) (before : w ≡ watchdogOf five) (after : five′ ≡ listedFive (timesOf w′ five)) where
+    pub time-codes : {spans aims numbers run last : List ℕ} {byte clock : ℕ} {records run′ last′ records′ : List ℕ}
+        → ((b : Box) (rows : List ℕ) → Finds b rows spans aims numbers run last → Does (step (length records) b w (TimeCode byte clock)) clock a w′ run′ last′ records records′)
+        → TimeCodes spans aims numbers run last five byte clock records run′ last′ five′ records′ eight
+    time-codes {byte = byte} {clock = clock} {records = records} {run′ = run′} {last′ = last′} does = record {
+      steps = record {
+        answer = a;
+        numbers = told;
+        does = λ rows b f.
+            let d = rw before at (does b rows f) in
+            by-time-code (length records) b (watchdogOf five) _ a run′ last′ records _ _ (watchdogOf five′) _ refl
+            (record {
+              answers = d .answers;
+              watchdog = sym (of-them (timesOf w′ five) after) ∙ ap (λ (x : Watchdog). timesOf x five) (d .watchdog) ∙ times-kept (length records) b five byte clock;
+              records = d .records;
+            });
+      };
+      whole = are-five (timesOf w′ five) after;
     }
 
   pub requests : {rows spans aims numbers run run′ : List ℕ} {i t k n : ℕ}

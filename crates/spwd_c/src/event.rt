@@ -1,7 +1,7 @@
 // The four events, as C calls them. "A refusal leaves state, buffers and watchdog numbers untouched and answers its number, all else 0."
 ghost use Rattle.spwd_c.specs.Exports.{TimeCodes, Requests, Replies, Readings};
 use c_numbers::five::put_changed;
-use c_numbers::five::put_watchdog;
+use c_numbers::five::put_times;
 use c_numbers::five::watchdog_of;
 use events::reading::reading;
 use events::values::values_of;
@@ -27,7 +27,7 @@ pub extern "C" fn spwd_c_time_code(
 {
     let w = watchdog_of(five);
     let done = time_code(spans, aims, numbers, run, last, w, byte, clock, records);
-    put_watchdog(five, done.watchdog);
+    put_times(five, done.watchdog);
     let answered = done.answer;
     *answer = values_of(answered);
 }

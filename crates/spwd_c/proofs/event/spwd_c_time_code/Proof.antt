@@ -10,8 +10,8 @@ watchdog-of-requires c κs = search needs
 time-code-requires : tie.Need-time-code-requires
 time-code-requires c κs = search needs
 
-put-watchdog-requires : tie.Need-put-watchdog-requires
-put-watchdog-requires c κs = search needs
+put-times-requires : tie.Need-put-times-requires
+put-times-requires c κs = search needs
 
 values-of-requires : tie.Need-values-of-requires
 values-of-requires c κs = search needs
@@ -22,7 +22,7 @@ same-length c = search needs
 returns : tie.Need-returns
 returns c =
     let s = c .before .before .before .before .before in
-    time-codes (s .time-code .result .answer) (c .values-of .ensures) _ (s .time-code .result .watchdog) (s .before .before .before .before .watchdog-of .ensures) (c .before .put-watchdog .ensures) (s .time-code .ensures)
+    time-codes (s .time-code .result .answer) (c .values-of .ensures) _ (s .time-code .result .watchdog) (s .before .before .before .before .watchdog-of .ensures) (c .before .put-times .ensures) (s .time-code .ensures)
 
 pub spwd-c-time-code-spec : {M : Type 1} → statement M
 spwd-c-time-code-spec =
@@ -30,7 +30,7 @@ spwd-c-time-code-spec =
     (tie.spec
     watchdog-of-requires
     time-code-requires
-    put-watchdog-requires
+    put-times-requires
     values-of-requires
     same-length
     returns)
