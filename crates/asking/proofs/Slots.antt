@@ -18,10 +18,11 @@ use Rattle.sets.specs.Laws.{member-empty}
 use Rattle.plan_rules.specs.Plan.{Plan, Entry}
 use Rattle.plan_rules.specs.Meaning.{initiators, entryAt, permits}
 use Rattle.plan_rules.specs.laws.Sound.{Sound}
-use Rattle.plan_rules.specs.laws.Runs.{entry-at, found-at}
+use Rattle.plan_rules.specs.laws.Runs.{entry-at, found-at, permits-target}
 use Rattle.plan_memory.specs.Memory.{ofRow, spanOf, spansOf, aimOf, aimsOf}
 use Rattle.plan_view.specs.View.{Tells}
 use Rattle.box_rules.specs.Refuse.{mayStart}
+use Rattle.box_rules.specs.laws.Permitted.{permitted-by}
 use Rattle.asking.specs.Sides.{Tried, BarredAt, Barred}
 use Rattle.plan_view.specs.laws.Entries.{spanRead, targetsRead, entry-told}
 
@@ -85,6 +86,14 @@ module _ (spans aims : List ℕ) (row t n : ℕ) where
       slots-past slot before (λ p i ok es ea at e is.
       let told = (entry-told p ok row i at slot (spanRead p row slot) refl e is targets (aimed p ok ea)) .1 in
       rw (told .targets t, z))
+
+  -- no entry has such a target
+  pub slots-beyond : 64 ≤ t → Tried spans aims row t n false
+  slots-beyond h p i ok es ea at = go (mayStart p (p .entries) i t n) refl
+    where
+      go : (x : Bool) → mayStart p (p .entries) i t n ≡ x → false ≡ x
+      go true z = let (e, m, own, fit) = permitted-by p (p .entries) i t n z in absurd (omega (arith, ok .targets e m t (permits-target p e t n fit)))
+      go false z = refl
 
   pub slots-done : (slot : ℕ) → 64 ≤ slot → Barred spans aims row t n slot → Tried spans aims row t n false
   unfolding mayStart

@@ -38,12 +38,15 @@ fn lacks(aims: &[u64; 512], row: usize, target: u8) -> bool
     !has(all, target)
 }
 
-// 25: some entry of the row permits the target with the length. The first is tried by itself: a target that is permitted often is
-// permitted there.
+// 25: some entry of the row permits the target with the length. None has a target over 63. The first is tried by itself: a target that
+// is permitted often is permitted there.
 pub fn may_start(spans: &[u8; 512], aims: &[u64; 512], row: usize, target: u8, length: u16) -> bool
     ensures { λ r. ⌜ ((p : Plan) (i : ℕ) → Sound p → now (spans .entry) ≡ spansOf p → now (aims .entry) ≡ aimsOf p → atPlace row (initiators p) ≡ some i →
         r ≡ mayStart p (p .entries) i target length) ⌝ }
 {
+    if 64 <= target {
+        return false;
+    }
     if permits(
         targets_at(aims, row, 0),
         span_at(spans, row, 0),

@@ -2,7 +2,7 @@
 use Prim.Native.Nat.{_-_, _≤_}
 use native.Mathlib.Omega.{arith}
 use borrow.Author.Needs.{needs}
-use Rattle.asking.proofs.Slots.{slots-first, slots-next, slots-met, slots-done}
+use Rattle.asking.proofs.Slots.{slots-beyond, slots-first, slots-next, slots-met, slots-done}
 use Rattle.asking.specs.Sides.{Barred}
 use Rattle.asking.proofs.may_start.Statement.{statement}
 use Rattle.asking.proofs.may_start.Tie as tie
@@ -13,6 +13,11 @@ Inv-loop spans aims row target length slot₀ slot = (slot ≤ 64) × Barred spa
 abbrev μ-loop : tie.MeasureT-loop
 μ-loop spans aims row target length slot₀ slot = 64 - slot
 
+returns : tie.Need-returns Inv-loop μ-loop
+returns c =
+    let a = c .before .args in
+    slots-beyond (a .spans .now) (a .aims .now) (a .row) (a .target) (a .length) (c .if1 .taken)
+
 targets-at-requires : tie.Need-targets-at-requires Inv-loop μ-loop
 targets-at-requires c κs = search needs
 
@@ -22,26 +27,26 @@ span-at-requires c κs = search needs
 permits-requires : tie.Need-permits-requires Inv-loop μ-loop
 permits-requires c κs = search needs
 
-returns : tie.Need-returns Inv-loop μ-loop
-returns c =
+returns-2 : tie.Need-returns-2 Inv-loop μ-loop
+returns-2 c =
     let t = c .before .before .before .targets-at in
     let n = c .before .before .span-at in
     let r = c .before .permits in
-    let a = c .before .before .before .before .args in
-    slots-met (a .spans .now) (a .aims .now) (a .row) (a .target) (a .length) 0 (t .result) (n .result) (r .result) (n .ensures) (t .ensures) (r .ensures) (c .if1 .taken)
+    let a = c .before .before .before .before .before .args in
+    slots-met (a .spans .now) (a .aims .now) (a .row) (a .target) (a .length) 0 (t .result) (n .result) (r .result) (n .ensures) (t .ensures) (r .ensures) (c .if2 .taken)
 
 lacks-requires : tie.Need-lacks-requires Inv-loop μ-loop
 lacks-requires c κs = search needs
 
-returns-2 : tie.Need-returns-2 Inv-loop μ-loop
-returns-2 c =
+returns-3 : tie.Need-returns-3 Inv-loop μ-loop
+returns-3 c =
     let d = c .before .before in
     let t = d .before .before .before .targets-at in
     let n = d .before .before .span-at in
     let r = d .before .permits in
-    let a = d .before .before .before .before .args in
-    c .before .lacks .ensures (c .if2 .taken) (a .spans .now) (a .length)
-    (slots-first (a .spans .now) (a .aims .now) (a .row) (a .target) (a .length) (t .result) (n .result) (r .result) (n .ensures) (t .ensures) (r .ensures) (d .if1 .left))
+    let a = d .before .before .before .before .before .args in
+    c .before .lacks .ensures (c .if3 .taken) (a .spans .now) (a .length)
+    (slots-first (a .spans .now) (a .aims .now) (a .row) (a .target) (a .length) (t .result) (n .result) (r .result) (n .ensures) (t .ensures) (r .ensures) (d .if2 .left))
 
 loop-holds : tie.Need-loop-holds Inv-loop μ-loop
 loop-holds c =
@@ -49,9 +54,9 @@ loop-holds c =
     let t = d .before .before .before .targets-at in
     let n = d .before .before .span-at in
     let r = d .before .permits in
-    let a = d .before .before .before .before .args in (
+    let a = d .before .before .before .before .before .args in (
       search needs,
-      slots-first (a .spans .now) (a .aims .now) (a .row) (a .target) (a .length) (t .result) (n .result) (r .result) (n .ensures) (t .ensures) (r .ensures) (d .if1 .left),
+      slots-first (a .spans .now) (a .aims .now) (a .row) (a .target) (a .length) (t .result) (n .result) (r .result) (n .ensures) (t .ensures) (r .ensures) (d .if2 .left),
     )
 
 targets-at-requires-2 : tie.Need-targets-at-requires-2 Inv-loop μ-loop
@@ -63,14 +68,14 @@ span-at-requires-2 c κs = search needs
 permits-requires-2 : tie.Need-permits-requires-2 Inv-loop μ-loop
 permits-requires-2 c κs = search needs
 
-returns-3 : tie.Need-returns-3 Inv-loop μ-loop
-returns-3 c =
+returns-4 : tie.Need-returns-4 Inv-loop μ-loop
+returns-4 c =
     let t = c .before .before .before .targets-at2 in
     let n = c .before .before .span-at2 in
     let r = c .before .permits2 in
     let s = c .before .before .before .before .before in
-    let a = s .before .before .before .before .before .before .before .args in
-    slots-met (a .spans .now) (a .aims .now) (a .row) (a .target) (a .length) (s .loop .slot) (t .result) (n .result) (r .result) (n .ensures) (t .ensures) (r .ensures) (c .if3 .taken)
+    let a = s .before .before .before .before .before .before .before .before .args in
+    slots-met (a .spans .now) (a .aims .now) (a .row) (a .target) (a .length) (s .loop .slot) (t .result) (n .result) (r .result) (n .ensures) (t .ensures) (r .ensures) (c .if4 .taken)
 
 add-slot : tie.Need-add-slot Inv-loop μ-loop
 add-slot c = search needs
@@ -84,15 +89,15 @@ loop-again c =
     let n = c .before .before .span-at2 in
     let r = c .before .permits2 in
     let s = c .before .before .before .before .before in
-    let a = s .before .before .before .before .before .before .before .args in (
+    let a = s .before .before .before .before .before .before .before .before .args in (
       search needs,
-      slots-next (a .spans .now) (a .aims .now) (a .row) (a .target) (a .length) (s .loop .slot) (t .result) (n .result) (r .result) (n .ensures) (t .ensures) (r .ensures) (s .loop .inv .1) (c .if3 .left),
+      slots-next (a .spans .now) (a .aims .now) (a .row) (a .target) (a .length) (s .loop .slot) (t .result) (n .result) (r .result) (n .ensures) (t .ensures) (r .ensures) (s .loop .inv .1) (c .if4 .left),
     )
 
-returns-4 : tie.Need-returns-4 Inv-loop μ-loop
-returns-4 c =
+returns-5 : tie.Need-returns-5 Inv-loop μ-loop
+returns-5 c =
     let s = c .before in
-    let a = s .before .before .before .before .before .before .before .args in
+    let a = s .before .before .before .before .before .before .before .before .args in
     slots-done (a .spans .now) (a .aims .now) (a .row) (a .target) (a .length) (s .loop .slot) (omega arith) (s .loop .inv .1)
 
 pub may-start-spec : {M : Type 1} → statement M
@@ -101,18 +106,19 @@ may-start-spec =
     (tie.spec
     Inv-loop
     μ-loop
+    returns
     targets-at-requires
     span-at-requires
     permits-requires
-    returns
-    lacks-requires
     returns-2
+    lacks-requires
+    returns-3
     loop-holds
     targets-at-requires-2
     span-at-requires-2
     permits-requires-2
-    returns-3
+    returns-4
     add-slot
     loop-less
     loop-again
-    returns-4)
+    returns-5)
