@@ -16,7 +16,8 @@ use Rattle.lists.specs.laws.Bools.{both-true, true-both, not-both, some-some}
 use Rattle.lists.specs.laws.Numbers.{Finds, first-from}
 use Rattle.lists.specs.laws.Sweep.{any-below, least-is, least-nothing}
 use Rattle.lists.specs.laws.Cells.{cell-at}
-use Rattle.lists.specs.laws.Members.{at-member, rising-at, rising-order}
+use Rattle.lists.specs.laws.At.{at-member}
+use Rattle.lists.specs.laws.Members.{rising-at, rising-order}
 use Rattle.sets.specs.Set.{member, common, disjointOf, leastOf}
 use Rattle.sets.specs.Laws.{member-empty, disjoint-common}
 use Rattle.sets.specs.Packed.{member-packed}

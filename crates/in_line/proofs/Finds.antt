@@ -12,7 +12,8 @@ use lib.Dec.{eqb}
 use borrow.Author.Tests.{ne-eqb}
 use Rattle.lists.specs.Place.{Found, first}
 use Rattle.lists.specs.laws.Bools.{not-both}
-use Rattle.lists.specs.laws.Place.{at-member, first-some}
+use Rattle.lists.specs.laws.At.{at-member}
+use Rattle.lists.specs.laws.Place.{first-some}
 use Rattle.lists.specs.laws.Lines.{Passed, placed, first-at, first-none}
 use Rattle.plan_rules.specs.Plan.{Plan, Entry}
 use Rattle.box_rules.specs.State.{Request, Side}

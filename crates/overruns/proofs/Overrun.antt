@@ -15,7 +15,8 @@ use Rattle.lists.specs.Numbers.{firstFrom}
 use Rattle.lists.specs.laws.Bools.{both-true, true-both, not-both, some-some}
 use Rattle.lists.specs.laws.Numbers.{any-true, first-from}
 use Rattle.lists.specs.laws.Sweep.{any-below}
-use Rattle.lists.specs.laws.Members.{at-some, at-within, rising-at}
+use Rattle.lists.specs.laws.At.{at-some, at-within}
+use Rattle.lists.specs.laws.Members.{rising-at}
 use Rattle.plan_rules.specs.declared.Verdict.the-variants.{Overrun}
 use Rattle.plan_rules.specs.Plan.{Plan}
 use Rattle.plan_rules.specs.Meaning.{initiators, covers}

@@ -12,7 +12,7 @@ use Rattle.lists.specs.Search.{any, all}
 use Rattle.lists.specs.Rows.{firstOf}
 use Rattle.lists.specs.laws.Bools.{neither, same-test}
 use Rattle.lists.specs.laws.Search.{all-elim, all-intro}
-use Rattle.lists.specs.laws.Padded.{at-member}
+use Rattle.lists.specs.laws.At.{at-member}
 use Rattle.sets.specs.Set.{member}
 use Rattle.sets.specs.Packed.{member-packed-below}
 use Rattle.plan_rules.specs.Plan.{nth, Plan}

@@ -17,7 +17,7 @@ use Rattle.lists.specs.laws.Shuffle.{shuffled-length}
 use Rattle.lists.specs.laws.Order.{one-pair}
 use Rattle.lists.specs.laws.Found.{find-one}
 use Rattle.lists.specs.laws.Place.{first-some, first-has}
-use Rattle.lists.specs.laws.Members.{member-at}
+use Rattle.lists.specs.laws.At.{member-at}
 use Rattle.lists.specs.laws.Lines.{Passed, placed, at-below, first-at, first-none}
 use Rattle.plan_rules.specs.Plan.{nth, Route, Plan}
 use Rattle.plan_rules.specs.Meaning.{leadsFrom}

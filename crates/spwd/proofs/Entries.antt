@@ -11,7 +11,7 @@ use Rattle.lists.specs.Search.{keep}
 use Rattle.lists.specs.Place.{atPlace}
 use Rattle.lists.specs.laws.Bools.{true-both, none-some, some-some, cond-cases}
 use Rattle.lists.specs.laws.Search.{isIn-intro, keep-intro}
-use Rattle.lists.specs.laws.Members.{at-member, at-within, member-at}
+use Rattle.lists.specs.laws.At.{at-member, at-within, member-at}
 use Rattle.sets.specs.Set.{member}
 use Rattle.plan_rules.specs.Plan.{nth, two}
 use Rattle.plan_rules.specs.Meaning.{initiators}

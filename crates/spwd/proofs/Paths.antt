@@ -14,8 +14,7 @@ use Rattle.lists.specs.laws.Bools.{both-true, true-both, same-test}
 use Rattle.lists.specs.laws.Search.{isIn-elim, isIn-intro}
 use Rattle.lists.specs.laws.Numbers.{any-true}
 use Rattle.lists.specs.laws.Sweep.{any-below}
-use Rattle.lists.specs.laws.Shuffle.{shuffled-length}
-use Rattle.lists.specs.laws.Members.{member-at, at-some}
+use Rattle.lists.specs.laws.At.{member-at, at-some}
 use Rattle.plan_rules.specs.Plan.{nth, Route, Plan, Item, blank}
 use Rattle.plan_rules.specs.Meaning.{uses}
 use Rattle.plan_rules.specs.Judge.{outOfRange}
@@ -24,7 +23,7 @@ use Rattle.plan_rules.specs.Good.{Each}
 use Rattle.plan_rules.specs.laws.Lengths.{Sized}
 use Rattle.plan_rules.specs.laws.Uses.{on-path}
 use Rattle.plan_memory.specs.Memory.{pathsInOrder, numbersWith, numbersOf}
-use Rattle.plan_memory.specs.laws.PathRows.{path-order, to-order, path-at, initiator-byte, target-byte, count-byte, link-bytes}
+use Rattle.plan_memory.specs.laws.PathRows.{path-count, to-order, path-at, initiator-byte, target-byte, count-byte, link-bytes}
 use Rattle.box_rules.specs.State.{Box, thePlan}
 use Rattle.box_rules.specs.History.{Reached}
 use Rattle.calls.specs.Calls.{Memory}
@@ -66,7 +65,7 @@ module _ (m : Memory) (b : Box) (h : HeldBy m b) (i t l : ℕ) where
   all = rw (h .at .plan .numbers)
 
   as-many : length (pathsInOrder p) ≡ length (p .paths)
-  as-many = sym (shuffled-length (path-order p sized low))
+  as-many = path-count p sized low
 
   row-uses : (k : ℕ) (x : Route) → atPlace k (pathsInOrder p) ≡ some x → isPath m i t l k ≡ true → uses p i t l ≡ true
   row-uses k x at is =

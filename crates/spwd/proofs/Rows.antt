@@ -11,8 +11,7 @@ use lib.Seq.{getD-take, getD-drop}
 use lib.Dec.{eqb}
 use borrow.Author.Tests.{ne-eqb}
 use Rattle.lists.specs.Place.{atPlace}
-use Rattle.lists.specs.laws.At.{place-once}
-use Rattle.lists.specs.laws.Members.{at-none, at-within}
+use Rattle.lists.specs.laws.At.{at-none, at-within, place-once}
 use Rattle.plan_rules.specs.Plan.{nth}
 use Rattle.plan_rules.specs.Meaning.{initiators}
 use Rattle.plan_rules.specs.laws.Initiators.{initiators-once}

@@ -7,7 +7,7 @@ use native.Mathlib.Omega.{arith}
 use lib.ListN.{length, drop}
 use Rattle.lists.specs.Place.{atPlace}
 use Rattle.lists.specs.laws.Even.{flat-row}
-use Rattle.lists.specs.laws.Members.{member-at, at-some}
+use Rattle.lists.specs.laws.At.{member-at, at-some}
 use Rattle.box_rules.specs.declared.Event.{Event}
 use Rattle.box_rules.specs.declared.Event.the-variants.{TimeCode, Request, Reply, Reading}
 use Rattle.box_rules.specs.declared.Answer.{Answer}

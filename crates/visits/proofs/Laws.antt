@@ -7,7 +7,8 @@ use Prim.Native.Nat.{ℕ, _+_}
 use Rattle.lists.specs.Search.{isSome}
 use Rattle.lists.specs.Puts.{Puts}
 use Rattle.lists.specs.laws.Bools.{not-both, is-some, not-some}
-use Rattle.lists.specs.laws.Place.{first-some, at-member}
+use Rattle.lists.specs.laws.At.{at-member}
+use Rattle.lists.specs.laws.Place.{first-some}
 use Rattle.lists.specs.laws.Puts.{puts-none}
 use Rattle.plan_rules.specs.Plan.{Plan, Entry}
 use Rattle.box_rules.specs.State.{Request, Side}

@@ -17,7 +17,7 @@ use Rattle.lists.specs.laws.Bools.{some-some, none-some, true-both}
 use Rattle.lists.specs.laws.Search.{any-elim, all-elim, find-some, find-has}
 use Rattle.lists.specs.laws.More.{all-same}
 use Rattle.lists.specs.laws.Cells.{cell-at}
-use Rattle.lists.specs.laws.Padded.{in-list}
+use Rattle.lists.specs.laws.At.{read-member}
 use Rattle.sets.specs.Set.{member, alone, listed}
 use Rattle.sets.specs.Laws.{member-empty, member-and, member-or, no-members}
 use Rattle.sets.specs.Packed.{member-packed-below}
@@ -219,7 +219,7 @@ module _ {p : Plan} {sets′ ends′ : List ℕ} {start : ℕ} {links : List ℕ
   other = nth ends′ (nth links k * 2 + 1)
 
   next-link : isLink p (nth links k) ≡ true
-  next-link = all-elim (isLink p) links (nth links k) (w .known) (in-list links k 0 h)
+  next-link = all-elim (isLink p) links (nth links k) (w .known) (read-member links k 0 h)
 
   pub next-below : nth links k < 64
   unfolding isLink

@@ -13,7 +13,8 @@ use borrow.Author.Tests.{eqb-true, ltb-false, leb-false, not-false}
 use Rattle.lists.specs.Rows.{testOf}
 use Rattle.lists.specs.laws.Bools.{not-both, none-some, some-some, cond-cases}
 use Rattle.lists.specs.laws.Rows.{rise, no-row}
-use Rattle.lists.specs.laws.Place.{first-some, at-member, without-member, without-short}
+use Rattle.lists.specs.laws.At.{at-member}
+use Rattle.lists.specs.laws.Place.{first-some, without-member, without-short}
 use Rattle.plan_rules.specs.Plan.{Entry, Plan}
 use Rattle.plan_rules.specs.Meaning.{isInitiator}
 use Rattle.plan_rules.specs.Verdict.{number}

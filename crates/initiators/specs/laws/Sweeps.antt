@@ -14,7 +14,7 @@ use borrow.Author.Tests.{eqb-true, eqb-false, ltb-true, ltb-false, lt-ltb, le-lt
 use Rattle.lists.specs.Place.{atPlace}
 use Rattle.lists.specs.Puts.{Puts}
 use Rattle.lists.specs.laws.Bools.{cond-cases}
-use Rattle.lists.specs.laws.At.{no-place}
+use Rattle.lists.specs.laws.At.{at-none}
 use Rattle.lists.specs.laws.Puts.{puts-none, puts-then}
 use Rattle.plan_rules.specs.Plan.{Plan}
 use Rattle.plan_rules.specs.Meaning.{initiators}
@@ -26,7 +26,7 @@ use Rattle.initiators.specs.laws.RunSides.{side-fit}
 
 no-side : (p : Plan) (side : ℕ → Side) (r : ℕ) → length (initiators p) ≤ r → sideOf p side r ≡ idle
 unfolding sideOf
-no-side p side r h = rw (no-place (initiators p) r h, sideOf)
+no-side p side r h = rw (at-none (initiators p) r h, sideOf)
 
 -- what is put for the element at place k, if there is one
 unfoldable partAt : (ℕ → List ℕ) → ℕ → List ℕ → List ℕ

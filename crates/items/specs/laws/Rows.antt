@@ -13,7 +13,8 @@ use Rattle.lists.specs.Place.{atPlace}
 use Rattle.lists.specs.laws.Bools.{not-both}
 use Rattle.lists.specs.laws.Numbers.{Finds, first-from}
 use Rattle.lists.specs.laws.Cells.{cell-at}
-use Rattle.lists.specs.laws.At.{member-at, place-at, place-in, padded-at, place-once}
+use Rattle.lists.specs.laws.At.{at-member, place-at, member-read, place-once}
+use Rattle.lists.specs.laws.Padded.{padded-at}
 use Rattle.sets.specs.Set.{packed}
 use Rattle.plan_rules.specs.Plan.{nth, Plan}
 use Rattle.plan_rules.specs.Meaning.{isInitiator, initiators, hasPath}
@@ -44,9 +45,9 @@ module _ (p : Plan) (eight : length (initiators p) ≤ 8) (rows : List ℕ) (hel
   finds = rw found (first-from (min count 8) 0 (isRow rows i))
 
   -- the rows are the initiators
-  row-at : (k : ℕ) → k < count → nth rows k ≡ nth (initiators p) k
+  row-at : (k : ℕ) → nth rows k ≡ nth (initiators p) k
   unfolding rowsOf
-  row-at k h = rw held (padded-at 8 0 (initiators p) k 0 (omega arith))
+  row-at k = rw held (padded-at 8 0 (initiators p) k)
 
   pub row-within : r < count → r < 8
   row-within h = omega arith
@@ -55,10 +56,10 @@ module _ (p : Plan) (eight : length (initiators p) ≤ 8) (rows : List ℕ) (hel
   pub row-place : r < count → atPlace r (initiators p) ≡ some i
   row-place h =
       let e : i ≡ nth rows r = eqb-true i (nth rows r) (finds .found (omega (arith, row-within h))) in
-      place-at (initiators p) r 0 (omega arith) ∙ ap some (sym (row-at r h) ∙ sym e)
+      place-at (initiators p) r 0 (omega arith) ∙ ap some (sym (row-at r) ∙ sym e)
 
   pub row-initiator : r < count → isInitiator p i ≡ true
-  row-initiator h = initiator-in p i ((place-in (initiators p) r i (row-place h)) .0)
+  row-initiator h = initiator-in p i (at-member (initiators p) r i (row-place h))
 
   -- else i is none
   pub row-none : i < 64 → count ≤ r → isInitiator p i ≡ false
@@ -66,6 +67,6 @@ module _ (p : Plan) (eight : length (initiators p) ≤ 8) (rows : List ℕ) (hel
     where
       go : (x : Bool) → isInitiator p i ≡ x → x ≡ false
       go true e =
-          let (k, l, g) = member-at (initiators p) i 0 (in-initiators p i b e) in
-          not-both (eq-eqb i (nth rows k) (sym (row-at k (omega arith) ∙ g))) (finds .before k (omega arith) (omega arith))
+          let (k, l, g) = member-read (initiators p) i 0 (in-initiators p i b e) in
+          not-both (eq-eqb i (nth rows k) (sym (row-at k ∙ g))) (finds .before k (omega arith) (omega arith))
       go false e = refl

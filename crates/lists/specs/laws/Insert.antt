@@ -18,7 +18,7 @@ use Rattle.lists.specs.Order.{inOrder}
 use Rattle.lists.specs.Insert.{pastLast}
 use Rattle.lists.specs.laws.Bools.{not-both}
 use Rattle.lists.specs.laws.Search.{keep-append, keep-elim, keep-same, flat-elim, upFrom-range}
-use Rattle.lists.specs.laws.Padded.{in-list}
+use Rattle.lists.specs.laws.At.{read-member}
 use Rattle.lists.specs.laws.Append.{flat-append}
 use Rattle.lists.specs.laws.Order.{flat-same}
 use Rattle.lists.specs.laws.Numbers.{Finds, first-from}
@@ -46,11 +46,11 @@ module _ {A : Type 0} where
     place = k;
     within = omega (arith, ap length (i .old), length-append (i .before) (i .behind));
     new = i .new ∙ (rw (i .old, take-at (i .before) (i .behind) k refl, drop-at (i .before) (i .behind) k refl));
-    less = λ j h. rw (i .old, List·getD-append (i .before) (i .behind) d j h) (i .less _ (in-list (i .before) j d h));
+    less = λ j h. rw (i .old, List·getD-append (i .before) (i .behind) d j h) (i .less _ (read-member (i .before) j d h));
     more = λ j l h.
         let e : j ≡ k + (j - k) = omega arith in
         let m : j - k < length (i .behind) = omega (arith, ap length (i .old), length-append (i .before) (i .behind)) in
-        rw (i .old, e, getD-append-add (i .before) (i .behind) (j - k) d) (i .more _ (in-list (i .behind) (j - k) d m));
+        rw (i .old, e, getD-append-add (i .before) (i .behind) (j - k) d) (i .more _ (read-member (i .behind) (j - k) d m));
   }
     where
       k : ℕ

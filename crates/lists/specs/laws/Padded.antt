@@ -1,31 +1,15 @@
--- What stands at each place of a list, and of a list that is filled up.
-use mathlib.Core.Path.{_≡_, refl, sym, ap, _∙_}
-use mathlib.Core.List.{List, [], _∷_, _++_, map, List·Memᴰ, List·Memᴰ·head, List·Memᴰ·tail}
+-- What stands at each place of a list that is filled up, and of a list whose elements are changed one by one.
+use mathlib.Core.Path.{_≡_, refl, ap, _∙_}
+use mathlib.Core.List.{List, [], _∷_, _++_, map}
 use mathlib.Core.Option.{none, some}
-use mathlib.Core.Bool.{false}
-use Prim.Native.Nat.{ℕ, zero, suc, _-_, _≤_, _<_}
+use Prim.Native.Nat.{ℕ, zero, suc, _-_, _≤_}
 use native.Mathlib.Omega.{arith}
 use lib.ListN.{length, getD, take, drop, replicate, length-map}
-use lib.Dec.{eqb}
-use borrow.Author.Tests.{eq-eqb}
-use Rattle.lists.specs.Search.{any, repeats, twice}
 use Rattle.lists.specs.Place.{atPlace}
 use Rattle.lists.specs.Cells.{cells, padded}
-use Rattle.lists.specs.laws.Bools.{none-some, some-some, neither, not-both}
-use Rattle.lists.specs.laws.Search.{any-intro}
 use Rattle.lists.specs.laws.Cells.{cells-are, length-padded}
 
 module _ {A : Type 0} where
-  -- members and places
-  pub in-list : (xs : List A) (j : ℕ) (d : A) → j < length xs → List·Memᴰ (getD xs j d) xs
-  in-list [] j d h = absurd (omega arith)
-  in-list (x ∷ xs) zero d h = List·Memᴰ·head refl
-  in-list (x ∷ xs) (suc j) d h = List·Memᴰ·tail (in-list xs j d (omega arith))
-
-  pub place-in : (xs : List A) (x : A) (d : A) → List·Memᴰ x xs → (j : ℕ) × (j < length xs) × (getD xs j d ≡ x)
-  place-in (y ∷ ys) x d (List·Memᴰ·head e) = (0, omega arith, sym e)
-  place-in (y ∷ ys) x d (List·Memᴰ·tail m) = let r = place-in ys x d m in (suc (r .0), omega (arith, r .1), r .2)
-
   filled-at : (xs : List A) (m : ℕ) (d : A) (i : ℕ) → getD (xs ++ replicate m d) i d ≡ getD xs i d
   filled-at [] zero d i = refl
   filled-at [] (suc m) d zero = refl
@@ -37,34 +21,6 @@ module _ {A : Type 0} where
   pub padded-at : (n : ℕ) (d : A) (xs : List A) (i : ℕ) → getD (padded n d xs) i d ≡ getD xs i d
   unfolding padded
   padded-at n d xs i = filled-at xs (n - length xs) d i
-
-  -- the element at a place, as an answer and with something to give beyond the end
-  pub at-some : (xs : List A) (i : ℕ) (d : A) → i < length xs → atPlace i xs ≡ some (getD xs i d)
-  unfolding atPlace
-  at-some [] i d h = absurd (omega arith)
-  at-some (x ∷ xs) zero d h = refl
-  at-some (x ∷ xs) (suc i) d h = at-some xs i d (omega arith)
-
-  pub at-none : (xs : List A) (i : ℕ) → length xs ≤ i → atPlace i xs ≡ none
-  unfolding atPlace
-  at-none [] i h = refl
-  at-none (x ∷ xs) zero h = absurd (omega arith)
-  at-none (x ∷ xs) (suc i) h = at-none xs i (omega arith)
-
-  pub at-member : (xs : List A) (i : ℕ) (x : A) → atPlace i xs ≡ some x → List·Memᴰ x xs
-  unfolding atPlace
-  at-member [] i x e = none-some e
-  at-member (y ∷ ys) zero x e = List·Memᴰ·head (sym (some-some e))
-  at-member (y ∷ ys) (suc i) x e = List·Memᴰ·tail (at-member ys i x e)
-
--- where no number stands twice, a number has one place
-pub one-place : (xs : List ℕ) (x j k : ℕ) → twice xs ≡ false → atPlace j xs ≡ some x → atPlace k xs ≡ some x → j ≡ k
-unfolding twice repeats atPlace
-one-place [] x j k h e f = none-some e
-one-place (y ∷ ys) x zero zero h e f = refl
-one-place (y ∷ ys) x zero (suc k) h e f = not-both (any-intro (eqb y) ys x (at-member ys k x f) (eq-eqb y x (some-some e))) ((neither (any (eqb y) ys) (repeats eqb ys) h) .0)
-one-place (y ∷ ys) x (suc j) zero h e f = not-both (any-intro (eqb y) ys x (at-member ys j x e) (eq-eqb y x (some-some f))) ((neither (any (eqb y) ys) (repeats eqb ys) h) .0)
-one-place (y ∷ ys) x (suc j) (suc k) h e f = ap suc (one-place ys x j k ((neither (any (eqb y) ys) (repeats eqb ys) h) .1) e f)
 
 -- a function on each element of the first k, and of those behind them
 module _ {A B : Type 0} (f : A → B) where

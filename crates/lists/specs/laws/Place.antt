@@ -77,13 +77,7 @@ module _ {A : Type 0} where
   at-end [] x = refl
   at-end (y ∷ ys) x = at-end ys x
 
-  -- what stands at a place is in the list; what is left was in it, and is no longer
-  pub at-member : (xs : List A) (k : ℕ) (x : A) → atPlace k xs ≡ some x → List·Memᴰ x xs
-  unfolding atPlace
-  at-member [] k x h = none-some h
-  at-member (y ∷ ys) zero x h = List·Memᴰ·head (sym (some-some h))
-  at-member (y ∷ ys) (suc k) x h = List·Memᴰ·tail (at-member ys k x h)
-
+  -- what is left was in the list, and is no longer
   pub without-member : (xs : List A) (k : ℕ) (x : A) → List·Memᴰ x (without k xs) → List·Memᴰ x xs
   unfolding without
   without-member [] k x m = m

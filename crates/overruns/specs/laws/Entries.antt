@@ -10,7 +10,8 @@ use Rattle.lists.specs.Place.{atPlace}
 use Rattle.lists.specs.Order.{Rising}
 use Rattle.lists.specs.laws.Search.{find-some, find-has}
 use Rattle.lists.specs.laws.Rising.{rising-kept}
-use Rattle.lists.specs.laws.Members.{member-at, at-within, padded-at}
+use Rattle.lists.specs.laws.At.{member-at, at-within}
+use Rattle.lists.specs.laws.Filled.{at-padded}
 use Rattle.sets.specs.Set.{packed}
 use Rattle.plan_rules.specs.Plan.{Entry, Plan}
 use Rattle.plan_rules.specs.Meaning.{isInitiator, initiators, standsAt, entryAt}
@@ -34,7 +35,7 @@ rows-rise p = rising-kept (isInitiator p) 64 0
 
 pub row-reads : (p : Plan) (r i : ℕ) → RowOf p r i → getD (rowsOf p) r 0 ≡ i
 unfolding rowsOf
-row-reads p r i h = padded-at 8 0 (initiators p) r i h
+row-reads p r i h = at-padded 8 0 (initiators p) r i h
 
 pub rows-counted : (p : Plan) (size : ℕ) (numbers : List ℕ) → numbers ≡ numbersWith size p → getD numbers 2 0 ≡ length (initiators p)
 unfolding numbersWith

@@ -13,7 +13,8 @@ use Rattle.lists.specs.Numbers.{firstFrom}
 use Rattle.lists.specs.Cells.{padded}
 use Rattle.lists.specs.laws.Search.{any-none, any-false}
 use Rattle.lists.specs.laws.Cells.{cell-at}
-use Rattle.lists.specs.laws.Padded.{padded-at, at-some, at-none, place-in}
+use Rattle.lists.specs.laws.At.{at-none, place-at, member-read}
+use Rattle.lists.specs.laws.Padded.{padded-at}
 use Rattle.lists.specs.laws.Numbers.{Finds, first-from}
 use Rattle.sets.specs.Set.{member, packed}
 use Rattle.sets.specs.Laws.{member-empty}
@@ -43,14 +44,14 @@ row-read p i h b = go (first-from (min (length (initiators p)) 8) 0 test)
     go : Finds (min (length (initiators p)) 8) 0 test r → RowRead p i r
     go f = record {
       within = omega (arith, f .upto);
-      found = λ l. at-some (initiators p) r 0 l ∙ ap some (sym (padded-at 8 0 (initiators p) r) ∙ sym (eqb-true i _ (f .found (omega arith))));
+      found = λ l. place-at (initiators p) r 0 l ∙ ap some (sym (padded-at 8 0 (initiators p) r) ∙ sym (eqb-true i _ (f .found (omega arith))));
       missed = λ e. no (isInitiator p i) refl e;
     }
       where
         no : (x : Bool) → isInitiator p i ≡ x → r ≡ length (initiators p) → isInitiator p i ≡ false
         no false g e = g
         no true g e =
-            let (j, l, q) = place-in (initiators p) i 0 (in-initiators p i b g) in
+            let (j, l, q) = member-read (initiators p) i 0 (in-initiators p i b g) in
             absurd (eqb-false i _ (f .before j (omega arith) (omega arith)) (sym q ∙ sym (padded-at 8 0 (initiators p) j)))
 
 -- who is no initiator has no path

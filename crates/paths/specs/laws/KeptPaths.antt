@@ -7,12 +7,9 @@ use native.Mathlib.Omega.{arith}
 use lib.ListN.{length, getD, take, drop}
 use borrow.Author.Tests.{eq-eqb}
 use Rattle.lists.specs.Cells.{padded}
-use Rattle.lists.specs.Order.{Shuffled}
 use Rattle.lists.specs.laws.Bools.{true-both, not-both}
 use Rattle.lists.specs.laws.Search.{any-false}
 use Rattle.lists.specs.laws.Append.{flat-append}
-use Rattle.lists.specs.laws.Shuffle.{each-shuffled, shuffled-length}
-use Rattle.lists.specs.laws.Order.{inOrders-shuffled}
 use Rattle.lists.specs.laws.Padded.{padded-at}
 use Rattle.lists.specs.laws.Moved.{padded-putIn}
 use Rattle.lists.specs.laws.Chunks.{Wide, length-chunks, take-chunks, drop-chunks, chunk-at}
@@ -22,29 +19,21 @@ use Rattle.plan_rules.specs.Meaning.{leadsFrom, hasPath}
 use Rattle.plan_rules.specs.Judge.{givenBefore}
 use Rattle.plan_rules.specs.laws.Fair.{Fair}
 use Rattle.plan_rules.specs.laws.Chain.{Passes}
-use Rattle.plan_rules.specs.laws.Lengths.{path-length}
-use Rattle.plan_rules.specs.laws.Items.{path-in}
-use Rattle.plan_rules.specs.laws.InRange.{path-ranged}
 use Rattle.plan_rules.specs.laws.Initiators.{most-grows}
 use Rattle.plan_rules.specs.laws.Ranges.{route-range}
 use Rattle.plan_memory.specs.Memory.{pathRow, pathsInOrder, pathsOf}
+use Rattle.plan_memory.specs.laws.PathRows.{row-length, path-count, links-short}
 use Rattle.paths.specs.Keep.{keptPaths}
 use Rattle.path_places.specs.Places.{IsPlace}
 use Rattle.path_places.specs.laws.PathPlace.{before-precedes, behind-precedes}
-use Rattle.paths.specs.laws.Stored.{row-length}
 
 -- the paths of a fair plan in order: as many, each with eleven bytes
 module _ (p : Plan) (f : Fair p) where
-  pub in-order : Shuffled _≡_ (p .paths) (pathsInOrder p)
-  unfolding pathsInOrder
-  in-order = inOrders-shuffled _ _ (p .paths) (λ x m. let h = path-ranged p (f .ranges) x m in (h .initiator, h .target))
+  pub as-many : length (pathsInOrder p) ≡ length (p .paths)
+  as-many = path-count p (f .lengths) (f .ranges)
 
   pub wide : Wide pathRow 11 (pathsInOrder p)
-  wide = each-shuffled (λ y. length (pathRow y) ≡ 11) (λ y z e h. rw e at h) in-order
-      (λ y m. row-length y ((path-length y (f .lengths (path y) (path-in p y m))) .1))
-
-  pub as-many : length (pathsInOrder p) ≡ length (p .paths)
-  as-many = sym (shuffled-length in-order)
+  wide x m = row-length x (links-short p (f .lengths) (f .ranges) x m)
 
   -- the bytes of the path at place k
   pub byte-at : (k j : ℕ) (x : Route) → k < length (p .paths) → j < 11 → nth (pathsOf p) (k * 11 + j) ≡ nth (pathRow (getD (pathsInOrder p) k x)) j

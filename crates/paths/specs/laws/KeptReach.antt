@@ -13,7 +13,8 @@ use Rattle.lists.specs.Cells.{padded}
 use Rattle.lists.specs.Insert.{putIn}
 use Rattle.lists.specs.laws.Bools.{not-both}
 use Rattle.lists.specs.laws.Cells.{length-cells, cells-set}
-use Rattle.lists.specs.laws.Padded.{one-place, map-take, map-drop, cells-padded}
+use Rattle.lists.specs.laws.At.{place-once}
+use Rattle.lists.specs.laws.Padded.{map-take, map-drop, cells-padded}
 use Rattle.lists.specs.laws.Moved.{putIn-at, putIn-set, padded-putIn}
 use Rattle.sets.specs.Set.{member, added, packed}
 use Rattle.sets.specs.Laws.{member-empty}
@@ -75,7 +76,7 @@ module _ (p : Plan) (f : Fair p) (x : Route) (g : Passes p (path x)) where
       where
         go : (o : Option ℕ) → atPlace j (initiators p) ≡ o → _≡_ {A = ℕ} (elim o [ none ↦ 0 | some n ↦ reached p n ]) (elim o [ none ↦ 0 | some n ↦ reached q n ])
         go none b = refl
-        go (some n) b = other-word p x n (λ c. d (one-place (initiators p) i j r (initiators-once p) (b ∙ ap some c) a))
+        go (some n) b = other-word p x n (λ c. d (place-once (initiators p) j r i (initiators-once p) (b ∙ ap some c) a))
 
     reach-set : set (reachOf p) r (packed (added (x .target) (nth (reachOf p) r))) ≡ reachOf q
     unfolding reachOf

@@ -12,7 +12,8 @@ use borrow.Author.Tests.{lt-ltb, le-ltb, leb-false}
 use Rattle.lists.specs.Cells.{padded}
 use Rattle.lists.specs.Insert.{putIn}
 use Rattle.lists.specs.laws.Bools.{neither, not-both}
-use Rattle.lists.specs.laws.Padded.{padded-at, at-member}
+use Rattle.lists.specs.laws.At.{at-member}
+use Rattle.lists.specs.laws.Padded.{padded-at}
 use Rattle.lists.specs.laws.Moved.{padded-putIn}
 use Rattle.lists.specs.laws.Insert.{Placed, placed, last-is}
 use Rattle.plan_rules.specs.Plan.{Route, Plan, path, grow}

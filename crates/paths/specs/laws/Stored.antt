@@ -11,9 +11,9 @@ use Rattle.sets.specs.Packed.{packed-is}
 use Rattle.plan_rules.specs.Plan.{nth, Route}
 use Rattle.paths.specs.Keep.{keptReach, keptNumbers, keptPaths}
 use Rattle.path_places.specs.Places.{ownRow, withRow, withCount, IsPlace}
-use Rattle.lists.specs.laws.Cells.{length-padded}
 use Rattle.lists.specs.laws.Moved.{length-moved, moved-put}
 use Rattle.plan_memory.specs.Memory.{pathRow}
+use Rattle.plan_memory.specs.laws.PathRows.{row-length}
 use Rattle.path_places.specs.laws.OwnRow.{count-keeps}
 
 -- the target added to what the row reaches
@@ -27,11 +27,6 @@ reach-stored rows reach own count r w x e f h a =
 pub numbers-stored : (rows numbers now : List ℕ) (i : ℕ) → now ≡ withCount rows numbers i → set now 3 (nth now 3 + 1) ≡ keptNumbers rows numbers i
 unfolding keptNumbers
 numbers-stored rows numbers now i e = rw (e, count-keeps rows numbers i)
-
--- eleven bytes
-pub row-length : (x : Route) → length (x .links) ≤ 8 → length (pathRow x) ≡ 11
-unfolding pathRow
-row-length x h = omega (arith, length-padded 8 0 (x .links) h)
 
 -- room made at the path's place, and its bytes put there
 pub paths-stored : (paths qs rs : List ℕ) (c n k : ℕ) (x : Route) → length paths ≡ 1408 → length (x .links) ≤ 8 → c ≡ n → n < 128

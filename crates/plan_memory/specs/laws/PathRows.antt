@@ -12,9 +12,9 @@ use Rattle.lists.specs.Place.{atPlace}
 use Rattle.lists.specs.Order.{Shuffled}
 use Rattle.lists.specs.Cells.{padded}
 use Rattle.lists.specs.laws.Cells.{length-padded}
-use Rattle.lists.specs.laws.Shuffle.{each-shuffled, shuffled-sym}
+use Rattle.lists.specs.laws.Shuffle.{each-shuffled, shuffled-sym, shuffled-length}
 use Rattle.lists.specs.laws.Order.{inOrders-shuffled}
-use Rattle.lists.specs.laws.Members.{at-member}
+use Rattle.lists.specs.laws.At.{at-member}
 use Rattle.lists.specs.laws.Even.{flat-row}
 use Rattle.plan_rules.specs.Plan.{nth, Route, Plan, Item, path}
 use Rattle.plan_rules.specs.Judge.{outOfRange}
@@ -25,10 +25,18 @@ use Rattle.plan_rules.specs.laws.Lengths.{Sized, path-length}
 use Rattle.plan_rules.specs.laws.InRange.{path-ranged}
 use Rattle.plan_memory.specs.Memory.{pathRow, pathsInOrder, pathsOf}
 
+-- eleven bytes
+pub row-length : (x : Route) → length (x .links) ≤ 8 → length (pathRow x) ≡ 11
+unfolding pathRow
+row-length x h = omega (arith, length-padded 8 0 (x .links) h)
+
 module _ (p : Plan) (lengths : (x : Item) → List·Memᴰ x (items p) → Sized x) (ranges : Each p outOfRange false) where
   pub path-order : Shuffled _≡_ (p .paths) (pathsInOrder p)
   unfolding pathsInOrder
   path-order = inOrders-shuffled _ _ (p .paths) (λ x m. let r = path-ranged p ranges x m in (r .initiator, r .target))
+
+  pub path-count : length (pathsInOrder p) ≡ length (p .paths)
+  path-count = sym (shuffled-length path-order)
 
   pub from-order : (x : Route) → List·Memᴰ x (pathsInOrder p) → List·Memᴰ x (p .paths)
   from-order = each-shuffled (λ y. List·Memᴰ y (p .paths)) (λ x y e m. subst (λ z. List·Memᴰ z (p .paths)) e m) path-order (λ x m. m)
@@ -36,22 +44,19 @@ module _ (p : Plan) (lengths : (x : Item) → List·Memᴰ x (items p) → Sized
   pub to-order : (x : Route) → List·Memᴰ x (p .paths) → List·Memᴰ x (pathsInOrder p)
   to-order = each-shuffled (λ y. List·Memᴰ y (pathsInOrder p)) (λ x y e m. subst (λ z. List·Memᴰ z (pathsInOrder p)) e m) (shuffled-sym (λ x y e. sym e) path-order) (λ x m. m)
 
-  row-width : (x : Route) → List·Memᴰ x (pathsInOrder p) → length (pathRow x) ≡ 11
-  unfolding pathRow
-  row-width x m =
-      let short = (path-length x (lengths (path x) (path-in p x (from-order x m)))) .1 in
-      omega (arith, length-padded 8 0 (x .links) short)
+  pub links-short : (x : Route) → List·Memᴰ x (pathsInOrder p) → length (x .links) ≤ 8
+  links-short x m = (path-length x (lengths (path x) (path-in p x (from-order x m)))) .1
 
   module _ (k : ℕ) (x : Route) (at : atPlace k (pathsInOrder p) ≡ some x) where
     pub path-at : List·Memᴰ x (p .paths)
     path-at = from-order x (at-member (pathsInOrder p) k x at)
 
     pub links-most : length (x .links) ≤ 8
-    links-most = (path-length x (lengths (path x) (path-in p x path-at))) .1
+    links-most = links-short x (at-member (pathsInOrder p) k x at)
 
     row : (rest : List ℕ) × (drop (k * 11) (pathsOf p) ≡ pathRow x ++ rest)
     unfolding pathsOf padded
-    row = flat-row pathRow 11 (pathsInOrder p) _ row-width k x at
+    row = flat-row pathRow 11 (pathsInOrder p) _ (λ y m. row-length y (links-short y m)) k x at
 
     byte : (j : ℕ) → nth (pathsOf p) (k * 11 + j) ≡ nth (pathRow x ++ row .0) j
     byte j = sym (getD-drop (k * 11) (pathsOf p) j 0) ∙ ap (λ (m : List ℕ). nth m j) (row .1)

@@ -1,21 +1,18 @@
 -- What two plans with equal arrays have in common: devices, links, initiators, paths and intervals.
 use mathlib.Core.Path.{_≡_, refl, sym, ap, ap₂, _∙_}
-use mathlib.Core.List.{List, [], _∷_, List·Memᴰ}
+use mathlib.Core.List.{List, [], _∷_}
 use mathlib.Core.Option.{some}
 use mathlib.Core.Bool.{Bool, true, false}
-use Prim.Native.Nat.{ℕ, zero, suc, _+_, _*_, _/_, _%_, _≤_, _<_, min, max}
+use Prim.Native.Nat.{ℕ, zero, suc, _+_, _*_, _/_, _%_, _<_, min, max}
 use native.Mathlib.Omega.{arith}
 use lib.ListN.{length}
 use lib.Dec.{eqb}
 use borrow.Author.Tests.{eqb-true, eq-eqb}
 use Rattle.lists.specs.Search.{find, repeats}
-use Rattle.lists.specs.Order.{Shuffled}
 use Rattle.lists.specs.Cells.{padded}
 use Rattle.lists.specs.laws.Bools.{both-true, true-both}
 use Rattle.lists.specs.laws.Search.{any-elim, any-intro, find-some, find-has}
-use Rattle.lists.specs.laws.Shuffle.{each-shuffled, shuffled-length}
-use Rattle.lists.specs.laws.Order.{one-key, inOrders-shuffled}
-use Rattle.lists.specs.laws.Cells.{length-padded}
+use Rattle.lists.specs.laws.Order.{one-key}
 use Rattle.lists.specs.laws.Found.{find-one}
 use Rattle.lists.specs.laws.Told.{cells-told, padded-told, even-length, parts-told}
 use Rattle.lists.specs.laws.OneOrder.{Among}
@@ -26,9 +23,8 @@ use Rattle.plan_rules.specs.Meaning.{hasKind, isLink, initiators}
 use Rattle.plan_rules.specs.Judge.{outOfRange}
 use Rattle.plan_rules.specs.Canon.{smallFirst}
 use Rattle.plan_rules.specs.Good.{Good, Each, sameLinkNumber}
-use Rattle.plan_rules.specs.laws.Items.{path-in}
-use Rattle.plan_rules.specs.laws.InRange.{device-ranged, link-ranged, path-ranged}
-use Rattle.plan_rules.specs.laws.Lengths.{path-length}
+use Rattle.plan_rules.specs.laws.InRange.{device-ranged, link-ranged}
+use Rattle.plan_memory.specs.laws.PathRows.{row-length, path-count, links-short}
 use Rattle.plan_memory.specs.Memory.{setsOf, endOf, endsOf, rowsOf, pathRow, pathsInOrder, pathsOf, leastOf, greatestOf, numbersWith, numbersOf}
 
 -- a word tells the test that it was made of
@@ -90,10 +86,6 @@ told-links p q e f r u l m =
     t k = eqb (l .num) (k .num)
 
 -- `paths`: a row of eleven bytes tells its path
-row-length : (x : Route) → length (x .links) ≤ 8 → length (pathRow x) ≡ 11
-unfolding pathRow
-row-length x h = omega (arith, length-padded 8 0 (x .links) h)
-
 row-told : (x y : Route) → pathRow x ≡ pathRow y → x ≡ y
 unfolding pathRow
 row-told x y e =
@@ -103,17 +95,6 @@ row-told x y e =
     let d : padded 8 0 (x .links) ≡ padded 8 0 (y .links) = cc in
     let f = padded-told 8 0 (x .links) (y .links) l d in
     λ i. record { initiator = a i; target = b i; links = f i }
-
-module _ (p : Plan) (g : Good p) where
-  paths-shuffled : Shuffled _≡_ (p .paths) (pathsInOrder p)
-  unfolding pathsInOrder
-  paths-shuffled = inOrders-shuffled (λ x. x .initiator) (λ x. x .target) (p .paths) (λ x m. let h = path-ranged p (g .ranges) x m in (h .initiator, h .target))
-
-  paths-length : length (pathsInOrder p) ≡ length (p .paths)
-  paths-length = sym (shuffled-length paths-shuffled)
-
-  paths-short : (x : Route) → List·Memᴰ x (pathsInOrder p) → length (x .links) ≤ 8
-  paths-short = each-shuffled (λ x. length (x .links) ≤ 8) (λ x y e l. rw e at l) paths-shuffled (λ x m. (path-length x (g .lengths (path x) (path-in p x m))) .1)
 
 -- `numbers`
 module _ (p q : Plan) (e : numbersOf p ≡ numbersOf q) where
@@ -138,6 +119,6 @@ module _ (p q : Plan) (e : numbersOf p ≡ numbersOf q) where
   pub told-paths : Good p → Good q → pathsOf p ≡ pathsOf q → pathsInOrder p ≡ pathsInOrder q
   unfolding numbersOf numbersWith pathsOf
   told-paths g h f =
-      let l : length (pathsInOrder p) ≡ length (pathsInOrder q) = paths-length p g ∙ number-told 3 ∙ sym (paths-length q h) in
-      let same = even-length pathRow 11 _ row-length (pathsInOrder p) (paths-short p g) ∙ ap (λ n. 11 * n) l ∙ sym (even-length pathRow 11 _ row-length (pathsInOrder q) (paths-short q h)) in
-      parts-told pathRow 11 _ row-length row-told (pathsInOrder p) (pathsInOrder q) (paths-short p g) (paths-short q h) l (padded-told 1408 0 _ _ same f)
+      let l : length (pathsInOrder p) ≡ length (pathsInOrder q) = path-count p (g .lengths) (g .ranges) ∙ number-told 3 ∙ sym (path-count q (h .lengths) (h .ranges)) in
+      let same = even-length pathRow 11 _ row-length (pathsInOrder p) (links-short p (g .lengths) (g .ranges)) ∙ ap (λ n. 11 * n) l ∙ sym (even-length pathRow 11 _ row-length (pathsInOrder q) (links-short q (h .lengths) (h .ranges))) in
+      parts-told pathRow 11 _ row-length row-told (pathsInOrder p) (pathsInOrder q) (links-short p (g .lengths) (g .ranges)) (links-short q (h .lengths) (h .ranges)) l (padded-told 1408 0 _ _ same f)

@@ -7,7 +7,7 @@ use Prim.Native.Nat.{ℕ, _+_, _*_, _≤_, _<_}
 use native.Mathlib.Omega.{arith}
 use lib.Dec.{leb}
 use Rattle.lists.specs.Place.{atPlace}
-use Rattle.lists.specs.laws.At.{no-place}
+use Rattle.lists.specs.laws.At.{at-none}
 use Rattle.sets.specs.Set.{member}
 use Rattle.plan_rules.specs.Plan.{nth, Entry, Plan}
 use Rattle.plan_rules.specs.Meaning.{initiators, fits, permits, entryAt}
@@ -20,7 +20,7 @@ use Rattle.plan_view.specs.View.{Tells}
 module _ (p : Plan) (ok : Sound p) where
   -- no row from the eighth on, and no entry stands at a slot from the 64th on
   past-rows : (g : Option Entry → ℕ) (r v : ℕ) → 8 ≤ r → 0 ≡ ofRow p r (λ (i : ℕ). g (entryAt (p .entries) i v))
-  past-rows g r v h = sym (of-no-row p r _ (no-place (initiators p) r (omega (arith, ok .eight))))
+  past-rows g r v h = sym (of-no-row p r _ (at-none (initiators p) r (omega (arith, ok .eight))))
 
   no-entry : (i v : ℕ) → 64 ≤ v → (o : Option Entry) → entryAt (p .entries) i v ≡ o → o ≡ none
   no-entry i v h none q = refl

@@ -7,7 +7,7 @@ use native.Mathlib.Omega.{arith}
 use lib.ListN.{length}
 use borrow.Author.Count.{below-more}
 use Rattle.lists.specs.Numbers.{firstFrom}
-use Rattle.lists.specs.laws.At.{no-place}
+use Rattle.lists.specs.laws.At.{at-none}
 use Rattle.lists.specs.laws.Insert.{first-is}
 use Rattle.plan_rules.specs.Plan.{nth, Plan}
 use Rattle.plan_rules.specs.Meaning.{isInitiator, initiators}
@@ -27,7 +27,7 @@ module _ (p : Plan) (ok : Sound p) where
   initiator-told rows is r = rw is (row-cell p r)
 
   pub initiator-none : (r : ℕ) → 8 ≤ r → 0 ≡ ofRow p r (λ (i : ℕ). i)
-  initiator-none r h = sym (of-no-row p r (λ (i : ℕ). i) (no-place (initiators p) r (omega (arith, ok .eight))))
+  initiator-none r h = sym (of-no-row p r (λ (i : ℕ). i) (at-none (initiators p) r (omega (arith, ok .eight))))
 
   -- no row before row k is that of i
   module _ (size : ℕ) (rows numbers : List ℕ) (rs : rows ≡ rowsOf p) (ns : numbers ≡ numbersWith size p) (i k : ℕ) (passed : (j : ℕ) → j < k → isRow rows i j ≡ false) where

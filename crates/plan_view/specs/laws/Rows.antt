@@ -11,7 +11,7 @@ use borrow.Author.Tests.{eqb-true, eq-eqb}
 use Rattle.lists.specs.Place.{Found, first, atPlace}
 use Rattle.lists.specs.laws.Bools.{not-both}
 use Rattle.lists.specs.laws.Found.{place-of}
-use Rattle.lists.specs.laws.At.{place-in, place-once}
+use Rattle.lists.specs.laws.At.{at-member, place-once}
 use Rattle.lists.specs.laws.Lines.{placed}
 use Rattle.lists.specs.laws.Place.{first-some, first-has}
 use Rattle.plan_rules.specs.Plan.{Plan}
@@ -42,7 +42,7 @@ no-row p i h = go (first (eqb i) (initiators p)) refl
   where
     go : (o : Option (Found ℕ)) → first (eqb i) (initiators p) ≡ o → placeOr 8 o ≡ 8
     go none e = refl
-    go (some f) e = not-both (initiator-in p i ((place-in (initiators p) (f .place) i (found-own p i f e)) .0)) h
+    go (some f) e = not-both (initiator-in p i (at-member (initiators p) (f .place) i (found-own p i f e))) h
 
 module _ (p : Plan) (ok : Sound p) (i : ℕ) where
   row-for : isInitiator p i ≡ true → (rowFor p i < 8) × (atPlace (rowFor p i) (initiators p) ≡ some i)

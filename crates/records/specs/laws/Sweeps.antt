@@ -6,7 +6,7 @@ use Prim.Native.Nat.{ℕ, _≤_, _<_}
 use native.Mathlib.Omega.{arith}
 use Rattle.lists.specs.Place.{atPlace}
 use Rattle.lists.specs.Puts.{Puts}
-use Rattle.lists.specs.laws.At.{place-in}
+use Rattle.lists.specs.laws.At.{at-member}
 use Rattle.lists.specs.laws.Flat.{flat-flat}
 use Rattle.plan_rules.specs.Plan.{Plan}
 use Rattle.plan_rules.specs.Meaning.{initiators}
@@ -45,7 +45,7 @@ module _ {run₀ : List ℕ} (x : Held run₀) where
       go : (o : Option ℕ) → atPlace k (initiators (x .plan)) ≡ o → elim o [ none ↦ 0 | some i ↦ i ] < 256
       go none at = omega arith
       go (some i) at =
-          let s : i < 64 = x .sound .small i (initiator-in (x .plan) i ((place-in (initiators (x .plan)) k i at) .0)) in
+          let s : i < 64 = x .sound .small i (initiator-in (x .plan) i (at-member (initiators (x .plan)) k i at)) in
           omega (arith, s)
 
   module _ (new : ℕ → Side) (part : ℕ → List Record) where

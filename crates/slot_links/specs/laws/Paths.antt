@@ -13,13 +13,11 @@ use borrow.Author.Tests.{ltb-true, lt-ltb, eqb-true, eq-eqb, ne-eqb}
 use Rattle.lists.specs.Search.{isIn}
 use Rattle.lists.specs.Numbers.{anyBelow}
 use Rattle.lists.specs.Place.{atPlace}
-use Rattle.lists.specs.Order.{Shuffled}
 use Rattle.lists.specs.laws.Bools.{both-true, true-both}
 use Rattle.lists.specs.laws.Search.{isIn-elim, isIn-intro}
 use Rattle.lists.specs.laws.Numbers.{any-true}
 use Rattle.lists.specs.laws.Sweep.{any-below}
-use Rattle.lists.specs.laws.Shuffle.{shuffled-length}
-use Rattle.lists.specs.laws.Members.{member-at, at-some}
+use Rattle.lists.specs.laws.At.{member-at, at-some}
 use Rattle.sets.specs.Set.{member, listed}
 use Rattle.plan_rules.specs.Plan.{Route, Plan}
 use Rattle.plan_rules.specs.Meaning.{uses}
@@ -28,7 +26,7 @@ use Rattle.plan_rules.specs.laws.Uses.{on-path}
 use Rattle.plan_rules.specs.laws.Fair.{Fair}
 use Rattle.plan_memory.specs.Memory.{pathsInOrder, pathsOf}
 use Rattle.slot_links.specs.Lanes.{linksAt, leadsOver}
-use Rattle.plan_memory.specs.laws.PathRows.{path-order, to-order, path-at, links-most, initiator-byte, target-byte, count-byte, link-bytes}
+use Rattle.plan_memory.specs.laws.PathRows.{path-count, to-order, path-at, links-most, initiator-byte, target-byte, count-byte, link-bytes}
 
 -- the part that is lent for path number k
 pub links-part : (paths : List ℕ) (k size : ℕ) → size ≡ min (getD paths (k * 11 + 2) 0) 8 → take ((k * 11 + 3 + size) - (k * 11 + 3)) (drop (k * 11 + 3) paths) ≡ linksAt paths k
@@ -63,8 +61,8 @@ leads-over paths initiator targets l k = (
 )
 
 module _ (p : Plan) (fair : Fair p) where
-  ordered : Shuffled _≡_ (p .paths) (pathsInOrder p)
-  ordered = path-order p (fair .lengths) (fair .ranges)
+  as-many : length (pathsInOrder p) ≡ length (p .paths)
+  as-many = path-count p (fair .lengths) (fair .ranges)
 
   -- the links of path number k
   links-are : (k : ℕ) (x : Route) → atPlace k (pathsInOrder p) ≡ some x → linksAt (pathsOf p) k ≡ x .links
@@ -87,7 +85,7 @@ module _ (p : Plan) (fair : Fair p) where
       there : anyBelow all test ≡ true → (t : ℕ) × (member t targets ≡ true) × (uses p i t l ≡ true)
       there h =
           let (k, low, e) = any-true all test h in
-          let (x, at) = at-some (pathsInOrder p) k (omega (arith, shuffled-length ordered)) in
+          let (x, at) = at-some (pathsInOrder p) k (omega (arith, as-many)) in
           let (a, b, c, d) = (leads-over (pathsOf p) i targets l k) .0 e in
           let t = target-byte p (fair .lengths) (fair .ranges) k x at in (
             x .target,
@@ -100,7 +98,7 @@ module _ (p : Plan) (fair : Fair p) where
           let o = (on-path p i t l) .0 u in
           let x = o .route in
           let (k, low, at) = member-at (pathsInOrder p) x (to-order p (fair .lengths) (fair .ranges) x (o .has)) in
-          any-below all test k (omega (arith, shuffled-length ordered, fair .lists .paths .most))
+          any-below all test k (omega (arith, as-many, fair .lists .paths .most))
           ((leads-over (pathsOf p) i targets l k) .1 (
             initiator-byte p (fair .lengths) (fair .ranges) k x at ∙ sym (o .from),
             rw (target-byte p (fair .lengths) (fair .ranges) k x at, ← (o .to)) m,
