@@ -10,7 +10,7 @@ use Rattle.lists.specs.Search.{firstSome}
 use Rattle.plan_rules.specs.declared.Verdict.{Verdict}
 use Rattle.plan_rules.specs.declared.Verdict.the-variants.{Faulty}
 use Rattle.plan_rules.specs.Plan.{Timing, Plan}
-use Rattle.plan_rules.specs.Judge.{plan, fault, readFile, noTiming, overrun, clash, wholePlan, judge}
+use Rattle.plan_rules.specs.Judge.{plan, fault, readFile, noTiming, overrun, clash, counts, wholePlan, judge}
 
 module _ (s : List ℕ) where
   -- 1
@@ -52,3 +52,8 @@ module _ (s : List ℕ) where
         pub with-clash : (v : Verdict) → overrun (p .entries) ≡ none → clash p (p .entries) ≡ some v → judge s ≡ v
         unfolding wholePlan firstSome
         with-clash v g h = of-whole ∙ rw (has-timing, g, h)
+
+        -- accepted
+        pub with-neither : overrun (p .entries) ≡ none → clash p (p .entries) ≡ none → judge s ≡ counts p
+        unfolding wholePlan firstSome
+        with-neither g h = of-whole ∙ rw (has-timing, g, h)
