@@ -11,7 +11,7 @@ listedFive w = w .last ∷ w .seen ∷ w .reported ∷ w .least ∷ w .greatest 
 unfoldable pub watchdogOf : List ℕ → Watchdog
 watchdogOf five = record { last = nth five 0; seen = nth five 1; reported = nth five 2; least = nth five 3; greatest = nth five 4 }
 
--- with these five numbers' least and greatest: the plan's, which no event changes
+-- a watchdog, but for least and greatest, which are those of the five numbers: they are the plan's, and no event changes them
 unfoldable pub timesOf : Watchdog → List ℕ → Watchdog
 timesOf w five = record { last = w .last; seen = w .seen; reported = w .reported; least = nth five 3; greatest = nth five 4 }
 

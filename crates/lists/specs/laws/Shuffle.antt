@@ -94,12 +94,6 @@ module _ {A : Type 0} {R : A → A → Type 0} where
     shuffled-middle [] x xs = shuffled-refl (x ∷ xs)
     shuffled-middle (u ∷ us) x xs = then (swap x u (us ++ xs)) (next (i u) (shuffled-middle us x xs))
 
-    -- every member of the second list is related to one of the first
-    pub related-member : ((x y z : A) → R x y → R y z → R x z) → {xs ys : List A} → Shuffled R xs ys
-        → (y : A) → List·Memᴰ y ys → (x : A) × List·Memᴰ x xs × R x y
-    related-member tr {xs} s = each-shuffled (λ y. (x : A) × List·Memᴰ x xs × R x y)
-        (λ y z r h. (h .0, h .1, tr (h .0) y z (h .2) r)) s (λ x m. (x, m, i x))
-
   -- a list of one element has no other order
   pub short-shuffled : {B : Type 0} (f : A → B) → Respects R f → {xs ys : List A} → Shuffled R xs ys → length xs ≤ 1 → map f xs ≡ map f ys
   short-shuffled f c done l = refl
