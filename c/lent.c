@@ -26,7 +26,7 @@ static void take_back(struct plan p) {
     free(p.sets), free(p.reach), free(p.aims), free(p.ends), free(p.rows), free(p.paths), free(p.spans), free(p.numbers);
 }
 
-static void events(struct plan p, uint64_t *run, uint8_t *last, uint32_t *five, uint32_t *answer) {
+static void events(struct plan p, uint64_t *run, uint8_t *last, spwd_watchdog *five, uint32_t *answer) {
     uint8_t *records = room(136);
     for (uint32_t n = 0; n < 300; n++) {
         for (uint8_t i = 0; i < 64; i++)
@@ -51,7 +51,8 @@ int main(int count, char **names) {
     struct plan p = lend();
     uint64_t *run = room(768);
     uint8_t *last = room(1), *line = room(40), *file = room(20000);
-    uint32_t *five = room(20), *verdict = room(20), *answer = room(32);
+    spwd_watchdog *five = room(20);
+    uint32_t *verdict = room(20), *answer = room(32);
     spwd_c_clear(p.sets, p.ends, p.rows, p.reach, p.paths, p.spans, p.aims, p.numbers, run, last, five);
     if (!spwd_c_is_blank(p.sets, p.ends, p.rows, p.reach, p.paths, p.spans, p.aims, p.numbers, run, last, five)) return 1;
     for (int n = 1; n < count; n++) {

@@ -85,8 +85,14 @@ enum {
 enum { SPWD_READ = 0, SPWD_WRITE = 1 };
 enum { SPWD_SUCCESS = 0, SPWD_ERROR = 1, SPWD_RESERVED = 2 };
 
-/* The watchdog's five numbers, as they stand in `five` of a box. The caller may write others there before any call. */
-enum { SPWD_LAST_CLOCK = 0, SPWD_SEEN = 1, SPWD_REPORTED = 2, SPWD_LEAST = 3, SPWD_GREATEST = 4 };
+/* The watchdog's five numbers, as they stand in `watchdog` of a box. The caller may write others there before any call. */
+typedef struct spwd_watchdog {
+    uint32_t last;
+    uint32_t seen;
+    uint32_t reported;
+    uint32_t least;
+    uint32_t greatest;
+} spwd_watchdog;
 
 /* ---- memory that the caller lends */
 
@@ -102,11 +108,11 @@ typedef struct spwd_plan {
     uint32_t numbers[6];
 } spwd_plan;
 
-/* One box: all memory that it needs. Only `five` is for the caller to read and write. */
+/* One box: all memory that it needs. Only `watchdog` is for the caller to read and write. */
 typedef struct spwd_box {
     spwd_plan plan;
     uint64_t run[96];
-    uint32_t five[5];
+    spwd_watchdog watchdog;
     uint8_t last[1];
 } spwd_box;
 
@@ -167,24 +173,24 @@ extern "C" {
 #endif
 
 void spwd_c_clear(uint64_t sets[3], uint8_t ends[128], uint8_t rows[8], uint64_t reach[8], uint8_t paths[1408], uint8_t spans[512],
-                  uint64_t aims[512], uint32_t numbers[6], uint64_t run[96], uint8_t last[1], uint32_t five[5]);
+                  uint64_t aims[512], uint32_t numbers[6], uint64_t run[96], uint8_t last[1], spwd_watchdog *watchdog);
 void spwd_c_load(const uint8_t *file, size_t size, uint64_t sets[3], uint8_t ends[128], uint8_t rows[8], uint64_t reach[8],
                  uint8_t paths[1408], uint8_t spans[512], uint64_t aims[512], uint32_t numbers[6], uint64_t run[96], uint8_t last[1],
-                 uint32_t five[5], uint32_t verdict[5]);
+                 spwd_watchdog *watchdog, uint32_t verdict[5]);
 void spwd_c_time_code(const uint8_t spans[512], const uint64_t aims[512], const uint32_t numbers[6], uint64_t run[96], uint8_t last[1],
-                      uint32_t five[5], uint8_t byte, uint32_t clock, uint8_t *records, size_t room, uint32_t answer[8]);
+                      spwd_watchdog *watchdog, uint8_t byte, uint32_t clock, uint8_t *records, size_t room, uint32_t answer[8]);
 void spwd_c_request(const uint8_t rows[8], const uint8_t spans[512], const uint64_t aims[512], const uint32_t numbers[6],
                     uint64_t run[96], uint8_t initiator, uint8_t target, uint8_t kind, uint16_t length, uint32_t answer[8]);
 void spwd_c_reply(const uint8_t rows[8], const uint32_t numbers[6], uint64_t run[96], uint8_t initiator, uint16_t number,
                   uint8_t status, uint32_t answer[8]);
-void spwd_c_reading(const uint32_t numbers[6], uint32_t five[5], uint32_t clock, uint32_t answer[8]);
+void spwd_c_reading(const uint32_t numbers[6], spwd_watchdog *watchdog, uint32_t clock, uint32_t answer[8]);
 void spwd_c_write_out(const uint64_t sets[3], const uint8_t ends[128], const uint8_t rows[8], const uint64_t reach[8],
                       const uint8_t paths[1408], const uint8_t spans[512], const uint64_t aims[512], const uint32_t numbers[6],
                       uint8_t *out, size_t room, uint32_t answer[2]);
 size_t spwd_c_print(const uint32_t verdict[5], uint8_t line[40]);
 uint32_t spwd_c_is_blank(const uint64_t sets[3], const uint8_t ends[128], const uint8_t rows[8], const uint64_t reach[8],
                          const uint8_t paths[1408], const uint8_t spans[512], const uint64_t aims[512], const uint32_t numbers[6],
-                         const uint64_t run[96], const uint8_t last[1], const uint32_t five[5]);
+                         const uint64_t run[96], const uint8_t last[1], const spwd_watchdog *watchdog);
 uint32_t spwd_c_holds(const uint8_t *file, size_t size, const uint64_t sets[3], const uint8_t ends[128], const uint8_t rows[8],
                       const uint64_t reach[8], const uint8_t paths[1408], const uint8_t spans[512], const uint64_t aims[512],
                       const uint32_t numbers[6], uint64_t other_sets[3], uint8_t other_ends[128], uint8_t other_rows[8],
@@ -218,7 +224,7 @@ static inline void spwd_clear(spwd_box *box)
 {
     spwd_plan *plan = &box->plan;
     spwd_c_clear(plan->sets, plan->ends, plan->rows, plan->reach, plan->paths, plan->spans, plan->aims, plan->numbers, box->run,
-                 box->last, box->five);
+                 box->last, &box->watchdog);
 }
 
 /* Judges a plan file and, if it is accepted, puts the box under its plan: nothing waiting or live, the intervals in the five.
@@ -232,7 +238,7 @@ static inline spwd_verdict spwd_load(spwd_box *box, const uint8_t *file, size_t 
     uint32_t numbers[5];
     size_t place;
     spwd_c_load(size == 0 ? nothing : file, size, plan->sets, plan->ends, plan->rows, plan->reach, plan->paths, plan->spans,
-                plan->aims, plan->numbers, box->run, box->last, box->five, numbers);
+                plan->aims, plan->numbers, box->run, box->last, &box->watchdog, numbers);
     verdict.number = numbers[0];
     for (place = 0; place < 4; place++) {
         verdict.values[place] = numbers[place + 1];
@@ -248,7 +254,7 @@ static inline spwd_answer spwd_time_code(spwd_box *box, uint8_t byte, uint32_t c
     const spwd_plan *plan = &box->plan;
     uint8_t nothing[1] = {0};
     uint32_t answer[8];
-    spwd_c_time_code(plan->spans, plan->aims, plan->numbers, box->run, box->last, box->five, byte, clock,
+    spwd_c_time_code(plan->spans, plan->aims, plan->numbers, box->run, box->last, &box->watchdog, byte, clock,
                      room == 0 ? nothing : records, room, answer);
     return spwd_answer_of(answer);
 }
@@ -281,7 +287,7 @@ static inline spwd_answer spwd_reply(spwd_box *box, uint8_t initiator, uint16_t 
 static inline spwd_answer spwd_reading(spwd_box *box, uint32_t clock)
 {
     uint32_t answer[8];
-    spwd_c_reading(box->plan.numbers, box->five, clock, answer);
+    spwd_c_reading(box->plan.numbers, &box->watchdog, clock, answer);
     return spwd_answer_of(answer);
 }
 
@@ -322,7 +328,7 @@ static inline bool spwd_is_blank(const spwd_box *box)
 {
     const spwd_plan *plan = &box->plan;
     return spwd_c_is_blank(plan->sets, plan->ends, plan->rows, plan->reach, plan->paths, plan->spans, plan->aims, plan->numbers,
-                           box->run, box->last, box->five) != 0;
+                           box->run, box->last, &box->watchdog) != 0;
 }
 
 /* Says whether the box holds the plan of this file, whatever the order of its fields. `other` is plan memory to read the file into.

@@ -1,3 +1,2 @@
-pub mod Five
 pub mod Numbers
 pub mod laws

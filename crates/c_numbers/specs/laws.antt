@@ -1,3 +1,2 @@
-pub mod Fives
 pub mod Verdicts
 pub mod Judged

@@ -1,4 +1,3 @@
-// What crosses to C as numbers: the watchdog, a verdict, the answer of writing out.
+// What crosses to C as numbers: a verdict, the answer of writing out.
 pub mod copied;
-pub mod five;
 pub mod verdict;

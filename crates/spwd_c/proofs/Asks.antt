@@ -18,7 +18,6 @@ use Rattle.plan.specs.Load.{left}
 use Rattle.box_rules.specs.declared.Watchdog.{Watchdog}
 use Rattle.box_rules.specs.State.{cleared, watchdogCleared}
 use Rattle.calls.specs.Calls.{Memory, At}
-use Rattle.c_numbers.specs.Five.{watchdogOf}
 use Rattle.spwd_c.specs.Exports.{IsBlank, HoldsIt}
 
 at-most-1 : (b : Bool) → boolByte b ≤ 1
@@ -29,8 +28,8 @@ as-number : (b : Bool) {P : Type 0} → (b ≡ true) ↔ P → (boolByte b ≡ 1
 as-number true f = (λ e. (f .0) refl, λ p. refl)
 as-number false f = (λ e. absurd (omega arith), λ p. not-both ((f .1) p) refl)
 
-pub is-blank : (m : Memory) {five : List ℕ} {w : Watchdog} (b : Bool) → w ≡ watchdogOf five → (b ≡ true) ↔ ((w ≡ watchdogCleared) × At m cleared) → IsBlank m five (boolByte b)
-is-blank m b e f = record { most = at-most-1 b; says = as-number b (rw e at f) }
+pub is-blank : (m : Memory) {w : Watchdog} (b : Bool) → (b ≡ true) ↔ ((w ≡ watchdogCleared) × At m cleared) → IsBlank m w (boolByte b)
+is-blank m b f = record { most = at-most-1 b; says = as-number b f }
 
 pub holds-it : {file sets ends rows reach paths spans aims numbers sets′ ends′ rows′ reach′ paths′ spans′ aims′ numbers′ : List ℕ} (b : Bool)
     → ((o : Option Plan) → Held o sets ends rows reach paths spans aims numbers → (b ≡ true) ↔ ((number (judge file) ≡ 0) × (o ≡ some (planOf file))))

@@ -2,6 +2,7 @@
 -- before, or what is lent only to be read.
 use mathlib.Core.Path.{_≡_}
 use mathlib.Core.Logic.{_↔_}
+use mathlib.Core.Bool.{Bool, true, false}
 use Prim.Native.Nat.{ℕ, _≤_}
 use mathlib.Core.List.{List, _++_}
 use mathlib.Core.Option.{Option, some}
@@ -21,19 +22,12 @@ use Rattle.box_rules.specs.declared.Watchdog.{Watchdog}
 use Rattle.box_rules.specs.State.{cleared, watchdogCleared}
 use Rattle.box_rules.specs.Answer.{values}
 use Rattle.events.specs.Values.{listed}
-use Rattle.calls.specs.Calls.{Memory, At, ClearLeaves, LoadLeaves, Steps}
-use Rattle.c_numbers.specs.Five.{watchdogOf, AreFive}
+use Rattle.calls.specs.Calls.{Memory, At, LoadLeaves, Steps}
 use Rattle.c_numbers.specs.Numbers.{verdictNumbers, verdictOf, sizedNumbers}
 
--- `spwd_c_clear`
-pub record Clears (m′ : Memory) (five′ : List ℕ) : Type 0 where
-  pub leaves : ClearLeaves m′ (watchdogOf five′)
-  pub whole : AreFive five′
-
 -- `spwd_c_load`
-pub record Loads (file : List ℕ) (m′ : Memory) (five′ verdict′ : List ℕ) : Type 0 where
-  pub leaves : LoadLeaves file (judge file) m′ (watchdogOf five′)
-  pub whole : AreFive five′
+pub record Loads (file : List ℕ) (m′ : Memory) (w′ : Watchdog) (verdict′ : List ℕ) : Type 0 where
+  pub leaves : LoadLeaves file (judge file) m′ w′
   pub verdict : verdict′ ≡ verdictNumbers (judge file)
 
 -- document 01's eight numbers of an answer; which one, `Steps` says where memory holds a box
@@ -42,11 +36,14 @@ pub record Answered (answer′ : List ℕ) (Does : Answer → Type 0) : Type 0 w
   pub numbers : answer′ ≡ listed (values answer)
   pub does : Does answer
 
+-- a watchdog with the least and the greatest of another: they are the plan's, and no event changes them
+abbrev pub withTimes : Watchdog → Watchdog → Watchdog
+withTimes r w = record { last = r .last; seen = r .seen; reported = r .reported; least = w .least; greatest = w .greatest }
+
 -- `spwd_c_time_code`. It is lent no rows: run memory has the initiators of what it tells.
-pub record TimeCodes (spans aims numbers run last five : List ℕ) (byte clock : ℕ) (records run′ last′ five′ records′ answer′ : List ℕ) : Type 0 where
+pub record TimeCodes (spans aims numbers run last : List ℕ) (w : Watchdog) (byte clock : ℕ) (records run′ last′ : List ℕ) (w′ : Watchdog) (records′ answer′ : List ℕ) : Type 0 where
   pub steps : Answered answer′ λ a.
-      (rows : List ℕ) → Steps rows spans aims numbers run last (watchdogOf five) records (TimeCode byte clock) a run′ last′ (watchdogOf five′) records′
-  pub whole : AreFive five′
+      (rows : List ℕ) → Steps rows spans aims numbers run last w records (TimeCode byte clock) a run′ last′ w′ records′
 
 -- `spwd_c_request`. It is lent no last time-code, no five numbers and no record buffer: it is the step with any of these, and they stay.
 pub record Requests (rows spans aims numbers run : List ℕ) (initiator target kind size : ℕ) (run′ answer′ : List ℕ) : Type 0 where
@@ -58,11 +55,15 @@ pub record Replies (rows numbers run : List ℕ) (initiator transaction status :
   pub steps : Answered answer′ λ a.
       (spans aims last : List ℕ) (w : Watchdog) (records : List ℕ) → Steps rows spans aims numbers run last w records (Reply initiator transaction status) a run′ last w records
 
+-- a watchdog that is reported where the next time-code is overdue
+abbrev pub reportedWhere : Bool → Watchdog → Watchdog
+reportedWhere true w = record { last = w .last; seen = w .seen; reported = 1; least = w .least; greatest = w .greatest }
+reportedWhere false w = w
+
 -- `spwd_c_reading`. It is lent only whether there is a plan, and the five numbers.
-pub record Readings (numbers five : List ℕ) (clock : ℕ) (five′ answer′ : List ℕ) : Type 0 where
+pub record Readings (numbers : List ℕ) (w : Watchdog) (clock : ℕ) (w′ : Watchdog) (answer′ : List ℕ) : Type 0 where
   pub steps : Answered answer′ λ a.
-      (rows spans aims run last records : List ℕ) → Steps rows spans aims numbers run last (watchdogOf five) records (Reading clock) a run last (watchdogOf five′) records
-  pub whole : AreFive five′
+      (rows spans aims run last records : List ℕ) → Steps rows spans aims numbers run last w records (Reading clock) a run last w′ records
 
 -- `spwd_c_write_out`
 abbrev pub WritesOut : (sets ends rows reach paths spans aims numbers out out′ answer′ : List ℕ) → Type 0
@@ -77,9 +78,9 @@ pub record Prints (verdict line line′ : List ℕ) (r : ℕ) : Type 0 where
   pub judged : (file : List ℕ) → verdict ≡ verdictNumbers (judge file) → verdictOf verdict ≡ judge file
 
 -- `spwd_c_is_blank`: 1 where every number of the box is that of a clear, 0 where one is not
-pub record IsBlank (m : Memory) (five : List ℕ) (r : ℕ) : Type 0 where
+pub record IsBlank (m : Memory) (w : Watchdog) (r : ℕ) : Type 0 where
   pub most : r ≤ 1
-  pub says : (r ≡ 1) ↔ ((watchdogOf five ≡ watchdogCleared) × At m cleared)
+  pub says : (r ≡ 1) ↔ ((w ≡ watchdogCleared) × At m cleared)
 
 -- `spwd_c_holds`: 1 where the file is accepted and the box holds its plan, else 0. The memory beside the box's has the file's plan afterwards.
 pub record HoldsIt (file sets ends rows reach paths spans aims numbers sets′ ends′ rows′ reach′ paths′ spans′ aims′ numbers′ : List ℕ) (r : ℕ) : Type 0 where

@@ -2,12 +2,11 @@
 ghost use Rattle.calls.specs.Calls.{memory};
 ghost use Rattle.spwd_c.specs.Exports.{IsBlank, HoldsIt};
 use blank::is_blank;
-use c_numbers::five::watchdog_of;
+use box_rules::Watchdog;
 use reread::holds;
 
-// Whether every number of memory and of the five is that of a clear.
-#[no_mangle]
-pub extern "C" fn spwd_c_is_blank(
+// Whether every number of memory and of the five is that of a clear, with the five numbers by value.
+fn blank_with(
     sets: &[u64; 3],
     ends: &[u8; 128],
     rows: &[u8; 8],
@@ -18,11 +17,10 @@ pub extern "C" fn spwd_c_is_blank(
     numbers: &[u32; 6],
     run: &[u64; 96],
     last: &[u8; 1],
-    five: &[u32; 5],
+    w: Watchdog,
 ) -> u32
-    ensures { λ r. ⌜ IsBlank (memory (now (sets .entry)) (now (ends .entry)) (now (rows .entry)) (now (reach .entry)) (now (paths .entry)) (now (spans .entry)) (now (aims .entry)) (now (numbers .entry)) (now (run .entry)) (now (last .entry))) (now (five .entry)) r ⌝ }
+    ensures { λ r. ⌜ IsBlank (memory (now (sets .entry)) (now (ends .entry)) (now (rows .entry)) (now (reach .entry)) (now (paths .entry)) (now (spans .entry)) (now (aims .entry)) (now (numbers .entry)) (now (run .entry)) (now (last .entry))) w r ⌝ }
 {
-    let w = watchdog_of(five);
     let blank = is_blank(
         sets,
         ends,
@@ -37,6 +35,38 @@ pub extern "C" fn spwd_c_is_blank(
         w,
     );
     blank as u32
+}
+
+// Whether every number of memory and of the five is that of a clear.
+#[no_mangle]
+pub extern "C" fn spwd_c_is_blank(
+    sets: &[u64; 3],
+    ends: &[u8; 128],
+    rows: &[u8; 8],
+    reach: &[u64; 8],
+    paths: &[u8; 1408],
+    spans: &[u8; 512],
+    aims: &[u64; 512],
+    numbers: &[u32; 6],
+    run: &[u64; 96],
+    last: &[u8; 1],
+    watchdog: &Watchdog,
+) -> u32
+    ensures { λ r. ⌜ IsBlank (memory (now (sets .entry)) (now (ends .entry)) (now (rows .entry)) (now (reach .entry)) (now (paths .entry)) (now (spans .entry)) (now (aims .entry)) (now (numbers .entry)) (now (run .entry)) (now (last .entry))) (now (watchdog .entry)) r ⌝ }
+{
+    blank_with(
+        sets,
+        ends,
+        rows,
+        reach,
+        paths,
+        spans,
+        aims,
+        numbers,
+        run,
+        last,
+        *watchdog,
+    )
 }
 
 // Whether the file is accepted and the box holds its plan. The memory beside the box's has the file's plan afterwards.

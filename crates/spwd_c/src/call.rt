@@ -1,10 +1,13 @@
 // Clear and load, as C calls them.
-ghost use Rattle.calls.specs.Calls.{memory};
-ghost use Rattle.spwd_c.specs.Exports.{Clears, Loads};
-use c_numbers::five::put_watchdog;
+ghost use Rattle.calls.specs.Calls.{memory, ClearLeaves};
+ghost use mathlib.Core.Path.{_≡_};
+ghost use Rattle.c_numbers.specs.Numbers.{verdictNumbers};
+ghost use Rattle.spwd_c.specs.Exports.{Loads};
+use box_rules::Watchdog;
 use c_numbers::verdict::numbers_of;
-use calls::clear::clear_with;
-use calls::load::load_with;
+use calls::clear::clear;
+use calls::load::load;
+use plan_rules::Verdict;
 
 // The box of a clear, whatever memory held before.
 #[no_mangle]
@@ -19,11 +22,11 @@ pub extern "C" fn spwd_c_clear(
     numbers: &mut [u32; 6],
     run: &mut [u64; 96],
     last: &mut [u8; 1],
-    five: &mut [u32; 5],
+    watchdog: &mut Watchdog,
 )
-    ensures { λ _. ⌜ Clears (memory (now (sets .exit)) (now (ends .exit)) (now (rows .exit)) (now (reach .exit)) (now (paths .exit)) (now (spans .exit)) (now (aims .exit)) (now (numbers .exit)) (now (run .exit)) (now (last .exit))) (now (five .exit)) ⌝ }
+    ensures { λ _. ⌜ ClearLeaves (memory (now (sets .exit)) (now (ends .exit)) (now (rows .exit)) (now (reach .exit)) (now (paths .exit)) (now (spans .exit)) (now (aims .exit)) (now (numbers .exit)) (now (run .exit)) (now (last .exit))) (now (watchdog .exit)) ⌝ }
 {
-    let w = clear_with(
+    clear(
         sets,
         ends,
         rows,
@@ -34,8 +37,15 @@ pub extern "C" fn spwd_c_clear(
         numbers,
         run,
         last,
+        watchdog,
     );
-    put_watchdog(five, w);
+}
+
+// The numbers of a verdict, in the caller's array.
+fn put_verdict(verdict: &mut [u32; 5], judged: Verdict)
+    ensures { λ _. ⌜ now (verdict .exit) ≡ verdictNumbers judged ⌝ }
+{
+    *verdict = numbers_of(judged);
 }
 
 // The verdict on a file: the box holds its plan, or is that of a clear.
@@ -52,12 +62,12 @@ pub extern "C" fn spwd_c_load(
     numbers: &mut [u32; 6],
     run: &mut [u64; 96],
     last: &mut [u8; 1],
-    five: &mut [u32; 5],
+    watchdog: &mut Watchdog,
     verdict: &mut [u32; 5],
 )
-    ensures { λ _. ⌜ Loads (now (file .entry)) (memory (now (sets .exit)) (now (ends .exit)) (now (rows .exit)) (now (reach .exit)) (now (paths .exit)) (now (spans .exit)) (now (aims .exit)) (now (numbers .exit)) (now (run .exit)) (now (last .exit))) (now (five .exit)) (now (verdict .exit)) ⌝ }
+    ensures { λ _. ⌜ Loads (now (file .entry)) (memory (now (sets .exit)) (now (ends .exit)) (now (rows .exit)) (now (reach .exit)) (now (paths .exit)) (now (spans .exit)) (now (aims .exit)) (now (numbers .exit)) (now (run .exit)) (now (last .exit))) (now (watchdog .exit)) (now (verdict .exit)) ⌝ }
 {
-    let done = load_with(
+    let judged = load(
         file,
         sets,
         ends,
@@ -69,8 +79,7 @@ pub extern "C" fn spwd_c_load(
         numbers,
         run,
         last,
+        watchdog,
     );
-    put_watchdog(five, done.watchdog);
-    let judged = done.verdict;
-    *verdict = numbers_of(judged);
+    put_verdict(verdict, judged);
 }

@@ -1,13 +1,33 @@
 // The four events, as C calls them. "A refusal leaves state, buffers and watchdog numbers untouched and answers its number, all else 0."
-ghost use Rattle.spwd_c.specs.Exports.{TimeCodes, Requests, Replies, Readings};
-use c_numbers::five::put_changed;
-use c_numbers::five::put_times;
-use c_numbers::five::watchdog_of;
+ghost use Rattle.spwd_c.specs.Exports.{TimeCodes, Requests, Replies, Readings, withTimes, reportedWhere};
+use box_rules::Watchdog;
 use events::reading::reading;
 use events::values::values_of;
 use requests::reply::reply;
 use requests::request::request;
 use timecodes::time::time_code;
+
+// A time-code with the five numbers by value, and those after it as the answer.
+fn time_with(
+    spans: &[u8; 512],
+    aims: &[u64; 512],
+    numbers: &[u32; 6],
+    run: &mut [u64; 96],
+    last: &mut [u8; 1],
+    w: Watchdog,
+    byte: u8,
+    clock: u32,
+    records: &mut [u8],
+    answer: &mut [u32; 8],
+) -> Watchdog
+    ensures { λ r. ⌜ TimeCodes (now (spans .entry)) (now (aims .entry)) (now (numbers .entry)) (now (run .entry)) (now (last .entry)) w byte clock (now (records .entry))
+        (now (run .exit)) (now (last .exit)) (withTimes r w) (now (records .exit)) (now (answer .exit)) ⌝ }
+{
+    let done = time_code(spans, aims, numbers, run, last, w, byte, clock, records);
+    let answered = done.answer;
+    *answer = values_of(answered);
+    done.watchdog
+}
 
 #[no_mangle]
 pub extern "C" fn spwd_c_time_code(
@@ -16,20 +36,30 @@ pub extern "C" fn spwd_c_time_code(
     numbers: &[u32; 6],
     run: &mut [u64; 96],
     last: &mut [u8; 1],
-    five: &mut [u32; 5],
+    watchdog: &mut Watchdog,
     byte: u8,
     clock: u32,
     records: &mut [u8],
     answer: &mut [u32; 8],
 )
-    ensures { λ _. ⌜ TimeCodes (now (spans .entry)) (now (aims .entry)) (now (numbers .entry)) (now (run .entry)) (now (last .entry)) (now (five .entry)) byte clock (now (records .entry))
-        (now (run .exit)) (now (last .exit)) (now (five .exit)) (now (records .exit)) (now (answer .exit)) ⌝ }
+    ensures { λ _. ⌜ TimeCodes (now (spans .entry)) (now (aims .entry)) (now (numbers .entry)) (now (run .entry)) (now (last .entry)) (now (watchdog .entry)) byte clock (now (records .entry))
+        (now (run .exit)) (now (last .exit)) (now (watchdog .exit)) (now (records .exit)) (now (answer .exit)) ⌝ }
 {
-    let w = watchdog_of(five);
-    let done = time_code(spans, aims, numbers, run, last, w, byte, clock, records);
-    put_times(five, done.watchdog);
-    let answered = done.answer;
-    *answer = values_of(answered);
+    let after = time_with(
+        spans,
+        aims,
+        numbers,
+        run,
+        last,
+        *watchdog,
+        byte,
+        clock,
+        records,
+        answer,
+    );
+    watchdog.last = after.last;
+    watchdog.seen = after.seen;
+    watchdog.reported = after.reported;
 }
 
 #[no_mangle]
@@ -75,18 +105,27 @@ pub extern "C" fn spwd_c_reply(
     *answer = values_of(reply(rows, numbers, run, initiator, number, status));
 }
 
+// A reading with the five numbers by value: whether the next time-code is overdue, which is then reported.
+fn read_with(numbers: &[u32; 6], w: Watchdog, clock: u32, answer: &mut [u32; 8]) -> bool
+    ensures { λ r. ⌜ Readings (now (numbers .entry)) w clock (reportedWhere r w) (now (answer .exit)) ⌝ }
+{
+    let told = reading(numbers, w, clock);
+    let answered = told.answer;
+    *answer = values_of(answered);
+    let after = told.watchdog;
+    after.reported != w.reported
+}
+
 #[no_mangle]
 pub extern "C" fn spwd_c_reading(
     numbers: &[u32; 6],
-    five: &mut [u32; 5],
+    watchdog: &mut Watchdog,
     clock: u32,
     answer: &mut [u32; 8],
 )
-    ensures { λ _. ⌜ Readings (now (numbers .entry)) (now (five .entry)) clock (now (five .exit)) (now (answer .exit)) ⌝ }
+    ensures { λ _. ⌜ Readings (now (numbers .entry)) (now (watchdog .entry)) clock (now (watchdog .exit)) (now (answer .exit)) ⌝ }
 {
-    let w = watchdog_of(five);
-    let told = reading(numbers, w, clock);
-    put_changed(five, told.watchdog);
-    let answered = told.answer;
-    *answer = values_of(answered);
+    if read_with(numbers, *watchdog, clock, answer) {
+        watchdog.reported = 1;
+    }
 }

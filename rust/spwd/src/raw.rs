@@ -5,6 +5,7 @@
 //! each other. A slice crosses as its pointer and its length; an empty one has a pointer that is not null.
 
 use crate::plan::Plan;
+use crate::watchdog::Watchdog;
 use crate::LINE_ROOM;
 use core::mem::MaybeUninit;
 
@@ -21,8 +22,6 @@ type Numbers = [u32; 6];
 pub(crate) type Run = [u64; 96];
 /// The last accepted time-code.
 pub(crate) type Last = [u8; 1];
-/// The watchdog's numbers: last clock, seen, reported, least, greatest.
-pub(crate) type Five = [u32; 5];
 /// Room for the numbers of an answer: every event stores all eight. So aligned it is within one line of the cache wherever the stack lies.
 #[repr(C, align(32))]
 struct Answer(MaybeUninit<[u32; 8]>);
@@ -39,7 +38,7 @@ extern "C" {
         numbers: &mut Numbers,
         run: &mut Run,
         last: &mut Last,
-        five: &mut Five,
+        watchdog: &mut Watchdog,
     );
     fn spwd_c_load(
         file: *const u8,
@@ -54,7 +53,7 @@ extern "C" {
         numbers: &mut Numbers,
         run: &mut Run,
         last: &mut Last,
-        five: &mut Five,
+        watchdog: &mut Watchdog,
         verdict: &mut [u32; 5],
     );
     fn spwd_c_time_code(
@@ -63,7 +62,7 @@ extern "C" {
         numbers: &Numbers,
         run: &mut Run,
         last: &mut Last,
-        five: &mut Five,
+        watchdog: &mut Watchdog,
         byte: u8,
         clock: u32,
         records: *mut u8,
@@ -91,7 +90,7 @@ extern "C" {
         status: u8,
         answer: &mut Answer,
     );
-    fn spwd_c_reading(numbers: &Numbers, five: &mut Five, clock: u32, answer: &mut Answer);
+    fn spwd_c_reading(numbers: &Numbers, watchdog: &mut Watchdog, clock: u32, answer: &mut Answer);
     fn spwd_c_write_out(
         sets: &Sets,
         ends: &Ends,
@@ -117,7 +116,7 @@ extern "C" {
         numbers: &Numbers,
         run: &Run,
         last: &Last,
-        five: &Five,
+        watchdog: &Watchdog,
     ) -> u32;
     fn spwd_c_holds(
         file: *const u8,
@@ -142,7 +141,7 @@ extern "C" {
 }
 
 #[inline]
-pub(crate) fn clear(plan: &mut Plan, run: &mut Run, last: &mut Last, five: &mut Five) {
+pub(crate) fn clear(plan: &mut Plan, run: &mut Run, last: &mut Last, watchdog: &mut Watchdog) {
     // SAFETY: references alone, each of the size that is declared.
     unsafe {
         spwd_c_clear(
@@ -156,7 +155,7 @@ pub(crate) fn clear(plan: &mut Plan, run: &mut Run, last: &mut Last, five: &mut 
             &mut plan.numbers,
             run,
             last,
-            five,
+            watchdog,
         )
     }
 }
@@ -168,7 +167,7 @@ pub(crate) fn load(
     plan: &mut Plan,
     run: &mut Run,
     last: &mut Last,
-    five: &mut Five,
+    watchdog: &mut Watchdog,
 ) -> [u32; 5] {
     let mut verdict = [0; 5];
     // SAFETY: pointer and length are those of one slice, which is only read; the rest are references.
@@ -186,7 +185,7 @@ pub(crate) fn load(
             &mut plan.numbers,
             run,
             last,
-            five,
+            watchdog,
             &mut verdict,
         )
     }
@@ -198,7 +197,7 @@ pub(crate) fn time_code(
     plan: &Plan,
     run: &mut Run,
     last: &mut Last,
-    five: &mut Five,
+    watchdog: &mut Watchdog,
     byte: u8,
     clock: u32,
     records: &mut [u8],
@@ -213,7 +212,7 @@ pub(crate) fn time_code(
             &plan.numbers,
             run,
             last,
-            five,
+            watchdog,
             byte,
             clock,
             records.as_mut_ptr(),
@@ -277,11 +276,11 @@ pub(crate) fn reply(
 }
 
 #[inline]
-pub(crate) fn reading(plan: &Plan, five: &mut Five, clock: u32) -> [u32; 8] {
+pub(crate) fn reading(plan: &Plan, watchdog: &mut Watchdog, clock: u32) -> [u32; 8] {
     let mut answer = Answer(MaybeUninit::uninit());
     // SAFETY: numbers, and references of the sizes that are declared. The call stores the whole answer.
     unsafe {
-        spwd_c_reading(&plan.numbers, five, clock, &mut answer);
+        spwd_c_reading(&plan.numbers, watchdog, clock, &mut answer);
         answer.0.assume_init()
     }
 }
@@ -317,7 +316,7 @@ pub(crate) fn print(verdict: &[u32; 5], line: &mut [u8; LINE_ROOM]) -> usize {
 }
 
 #[inline]
-pub(crate) fn is_blank(plan: &Plan, run: &Run, last: &Last, five: &Five) -> bool {
+pub(crate) fn is_blank(plan: &Plan, run: &Run, last: &Last, watchdog: &Watchdog) -> bool {
     // SAFETY: references alone, each of the size that is declared.
     let blank = unsafe {
         spwd_c_is_blank(
@@ -331,7 +330,7 @@ pub(crate) fn is_blank(plan: &Plan, run: &Run, last: &Last, five: &Five) -> bool
             &plan.numbers,
             run,
             last,
-            five,
+            watchdog,
         )
     };
     blank != 0

@@ -13,7 +13,7 @@ pub struct Spwd {
     plan: Plan,
     run: raw::Run,
     last: raw::Last,
-    five: raw::Five,
+    watchdog: Watchdog,
 }
 
 impl Spwd {
@@ -23,7 +23,13 @@ impl Spwd {
             plan: Plan::new(),
             run: [0; 96],
             last: [0],
-            five: [0; 5],
+            watchdog: Watchdog {
+                last: 0,
+                seen: 0,
+                reported: 0,
+                least: 0,
+                greatest: 0,
+            },
         }
     }
 
@@ -33,7 +39,7 @@ impl Spwd {
             &mut self.plan,
             &mut self.run,
             &mut self.last,
-            &mut self.five,
+            &mut self.watchdog,
         );
     }
 
@@ -45,7 +51,7 @@ impl Spwd {
             &mut self.plan,
             &mut self.run,
             &mut self.last,
-            &mut self.five,
+            &mut self.watchdog,
         ))
     }
 
@@ -56,8 +62,8 @@ impl Spwd {
         let (plan, run) = (&self.plan, &mut self.run);
         match event {
             Event::TimeCode { byte, clock } => {
-                let (last, five) = (&mut self.last, &mut self.five);
-                raw::time_code(plan, run, last, five, byte, clock, records)
+                let (last, watchdog) = (&mut self.last, &mut self.watchdog);
+                raw::time_code(plan, run, last, watchdog, byte, clock, records)
             }
             Event::Request {
                 initiator,
@@ -70,7 +76,7 @@ impl Spwd {
                 number,
                 status,
             } => raw::reply(plan, run, initiator, number, status),
-            Event::Reading { clock } => raw::reading(plan, &mut self.five, clock),
+            Event::Reading { clock } => raw::reading(plan, &mut self.watchdog, clock),
         }
         .into()
     }
@@ -82,8 +88,9 @@ impl Spwd {
     /// [`Refusal::NO_PLAN`], [`Refusal::UPPER_BITS`], [`Refusal::SMALL_BUFFER`].
     #[inline]
     pub fn time_code(&mut self, byte: u8, clock: u32, records: &mut [u8]) -> Result<u8, Refusal> {
-        let (run, last, five) = (&mut self.run, &mut self.last, &mut self.five);
-        let [number, count, ..] = raw::time_code(&self.plan, run, last, five, byte, clock, records);
+        let (run, last, watchdog) = (&mut self.run, &mut self.last, &mut self.watchdog);
+        let [number, count, ..] =
+            raw::time_code(&self.plan, run, last, watchdog, byte, clock, records);
         taken(number)?;
         Ok(count as u8)
     }
@@ -131,7 +138,7 @@ impl Spwd {
     /// [`Refusal::NO_PLAN`].
     #[inline]
     pub fn reading(&mut self, clock: u32) -> Result<bool, Refusal> {
-        let [number, .., late] = raw::reading(&self.plan, &mut self.five, clock);
+        let [number, .., late] = raw::reading(&self.plan, &mut self.watchdog, clock);
         taken(number)?;
         Ok(late != 0)
     }
@@ -147,7 +154,7 @@ impl Spwd {
 
     /// Whether every number of the box and of the five is that of a clear.
     pub fn is_blank(&self) -> bool {
-        raw::is_blank(&self.plan, &self.run, &self.last, &self.five)
+        raw::is_blank(&self.plan, &self.run, &self.last, &self.watchdog)
     }
 
     /// Whether the box holds the plan of this file, in whatever order it gives it. The file is read into `other`, which has its plan
@@ -163,12 +170,12 @@ impl Spwd {
 
     /// The watchdog's five numbers.
     pub fn watchdog(&self) -> Watchdog {
-        self.five.into()
+        self.watchdog
     }
 
     /// Lends five other numbers: a caller may lend any, and an event answers for the five as lent.
     pub fn set_watchdog(&mut self, five: Watchdog) {
-        self.five = five.into();
+        self.watchdog = five;
     }
 }
 

@@ -1,6 +1,7 @@
 //! The watchdog's five numbers.
 
 /// The five numbers that belong to the caller: each call uses them as they stand in the box and updates them there.
+#[repr(C)]
 #[derive(Clone, Copy, Debug, Default, PartialEq, Eq)]
 pub struct Watchdog {
     /// Clock of the last time-code.

@@ -32,10 +32,10 @@ use denote.Triple.Clauses.{Clauses, Lasts}
 use Rattle.box_rules.specs.declared.Watchdog.{Watchdog}
 use Rattle.box_rules.proofs.Watchdog as watchdog
 use Rattle.box_rules.proofs.Watchdog.Laws as watchdog-laws
-use Rattle.calls.proofs.Lent.Parts.{lfts-but, shares-but, args-but, vals-but, tokens, parts, endings, puts-in, keeps, asks}
-use Rattle.calls.proofs.Lent.Locals.{begins, ends, held, lends}
-use Rattle.calls.proofs.Lent.Five.{five, word, lent, five-fits, opens-five, closes-five}
-use Rattle.calls.proofs.Lent.Calls.{answers, leaves, walked}
+use Rattle.calls.specs.laws.Lent.Parts.{lfts-but, shares-but, args-but, vals-but, tokens, parts, endings, puts-in, keeps, asks}
+use Rattle.calls.specs.laws.Lent.Locals.{begins, ends, held, lends}
+use Rattle.calls.specs.laws.Lent.Five.{five, word, lent, five-fits, opens-five, closes-five}
+use Rattle.calls.specs.laws.Lent.Calls.{answers, leaves, walked}
 use Rattle.calls.proofs.clear.clear_with as core
 use Rattle.calls.proofs.clear.clear_with.Symbol as core-def
 use Rattle.calls.proofs.clear.clear_with.Met as core-thm

@@ -38,10 +38,10 @@ use Rattle.box_rules.specs.declared.Watchdog.{Watchdog}
 use Rattle.calls.specs.declared.load.Loaded.{Loaded}
 use Rattle.calls.proofs.load.Loaded as loaded
 use Rattle.calls.proofs.load.Loaded.Laws as loaded-laws
-use Rattle.calls.proofs.Lent.Parts.{lfts-but, shares-but, args-but, vals-but, tokens, parts, endings, puts-in, keeps, asks}
-use Rattle.calls.proofs.Lent.Locals.{begins, ends, held, lends}
-use Rattle.calls.proofs.Lent.Five.{five, lent, five-fits, opens-five, closes-five}
-use Rattle.calls.proofs.Lent.Calls.{answers, leaves, walked}
+use Rattle.calls.specs.laws.Lent.Parts.{lfts-but, shares-but, args-but, vals-but, tokens, parts, endings, puts-in, keeps, asks}
+use Rattle.calls.specs.laws.Lent.Locals.{begins, ends, held, lends}
+use Rattle.calls.specs.laws.Lent.Five.{five, lent, five-fits, opens-five, closes-five}
+use Rattle.calls.specs.laws.Lent.Calls.{answers, leaves, walked}
 use Rattle.calls.proofs.load.load_with as core
 use Rattle.calls.proofs.load.load_with.Symbol as core-def
 use Rattle.calls.proofs.load.load_with.Met as core-thm

@@ -42,11 +42,11 @@ use Rattle.box_rules.proofs.Answer.Laws as answer-laws
 use Rattle.watchdog.specs.declared.watch.Stepped.{Stepped}
 use Rattle.watchdog.proofs.watch.Stepped as stepped
 use Rattle.watchdog.proofs.watch.Stepped.Laws as stepped-laws
-use Rattle.calls.proofs.Lent.Five as five-numbers
-use Rattle.calls.proofs.Lent.Parts.{beside, but, lfts-but, shares-but, tokens, parts, endings, puts-in, replaces, keeps, asks-with}
-use Rattle.calls.proofs.Lent.Locals.{begins, ends, held, lends}
-use Rattle.calls.proofs.Lent.Five.{five, lent, five-fits, opens-five, closes-five}
-use Rattle.calls.proofs.Lent.Calls.{answers, leaves, walked}
+use Rattle.calls.specs.laws.Lent.Five as five-numbers
+use Rattle.calls.specs.laws.Lent.Parts.{beside, but, lfts-but, shares-but, tokens, parts, endings, puts-in, replaces, keeps, asks-with}
+use Rattle.calls.specs.laws.Lent.Locals.{begins, ends, held, lends}
+use Rattle.calls.specs.laws.Lent.Five.{five, lent, five-fits, opens-five, closes-five}
+use Rattle.calls.specs.laws.Lent.Calls.{answers, leaves, walked}
 use Rattle.events.proofs.step.step_with as core
 use Rattle.events.proofs.step.step_with.Symbol as core-def
 use Rattle.events.proofs.step.step_with.Met as core-thm

@@ -12,9 +12,9 @@ use types.Kit.{Given, Item, ‵, _⊛_, Goal, Soaks, Seq, Step, step, _$_, move,
 use types.SemTy.{Body}
 use denote.RattleType.{RattleType}
 use denote.Laws.{Is, shows}
-use denote.Memory.{mem, cellAt}
-use denote.Ref.{RefT, MutRef, ptr-vals}
-use denote.Steps.{opens, closes, owned, peeks}
+use denote.Memory.{mem, cellAt, partAt}
+use denote.Ref.{RefT, MutRef, ShrRef, ptr-vals}
+use denote.Steps.{opens, closes, looks, shuts, owned, peeks}
 use denote.Struct.Steps.{spelt}
 use denote.Struct.Laws as Laws
 use Rattle.box_rules.specs.declared.Watchdog.{Watchdog}
@@ -43,6 +43,16 @@ module _ {M : Type 1} {𝓤 : URA M} (κ : Lft) (q : Share) (x : RefT Watchdog) 
   abbrev pub memory : Watchdog → Item 𝓤
   memory w = ‵ (fat fullShare watchdog-laws.mir (x .ptr .0) (x .ptr .1) (word w))
 
+  -- lent only to be read
+  abbrev pub shown : Item 𝓤
+  shown = ‵ (ShrRef (named 0) κ five .own x (ptr-vals x)) ⊛ ‵ (flft κ q)
+
+  abbrev pub looked : Share → Item 𝓤
+  looked s = ‵ (fobor κ q (partAt five s (x .now) (x .ptr .0) (x .ptr .1))) ⊛ ‵ (fres (x .name) (five .coded .code (x .now)))
+
+  abbrev pub seen : Share → Item 𝓤
+  seen s = ‵ (fat s watchdog-laws.mir (x .ptr .0) (x .ptr .1) (word (x .now)))
+
   abbrev pub settled : Watchdog → Item 𝓤
   settled w = ‵ (fres (x .name) (five .coded .code w)) ⊛ ‵ (flft κ q)
 
@@ -68,3 +78,24 @@ module _ {M : Type 1} {𝓤 : URA M} {H : Heap 𝓤} {A : Atoms 𝓤} {K : Type 
       owned t five (Is five) (Laws.makes watchdog.the-type watchdog-laws.the-plain 𝓤 H A) w (word w ∷ []) is $ move t (2 ∷ []) $ split3 t $ move t (4 ∷ 3 ∷ 0 ∷ 1 ∷ 2 ∷ []) $
       closes t z five w (word w ∷ []) b o $ use1 W (‵ (fres (x .name) (five .coded .code w))) (W .names .obs-res (x .name) (five .coded .code w)) $
       move t (1 ∷ []) $ drop t $ join t $ move t (1 ∷ 0 ∷ []) $ s)
+
+  -- the same of five numbers that are lent to be read
+  pub looks-five : K → Soaks G → (κ : Lft) (q : Share) (x : RefT Watchdog) → ((s : Share) → Is-five (x .now) → Seq K W (g ∷ looked κ q x s ∷ seen κ q x s ∷ Γ) G) → Seq K W (g ∷ shown κ q x ∷ Γ) G
+  looks-five t z κ q x k =
+      let b = x .ptr .0 in
+      let o = x .ptr .1 in
+      let w = x .now in
+      move t (1 ∷ []) $ split t $ fsplit3 t $ drop t $ move t (1 ∷ 2 ∷ []) $
+      looks t z five (Is five) (shows 𝓤 H A five) (Laws.vals watchdog.the-type watchdog-laws.the-laws) (Laws.tells watchdog.the-type watchdog-laws.the-laws) (Laws.copy watchdog.the-type watchdog-laws.the-copy 𝓤 H A W) w b o (λ s vs.
+      spelt t five (Is five) (shows 𝓤 H A five) (Laws.vals watchdog.the-type watchdog-laws.the-laws) (Laws.tells watchdog.the-type watchdog-laws.the-laws) s w vs b o $
+      use1 W (seen κ q x s) (W .laws .raw-at s watchdog-laws.mir b o (word w)) $ move t (1 ∷ []) $ peeks t five (Is five) (shows 𝓤 H A five) w (word w ∷ []) (λ is. drop t $
+      move t (2 ∷ []) $ drop t $ move t (1 ∷ 2 ∷ []) $ join t $ move t (2 ∷ 0 ∷ 1 ∷ []) $ k s is))
+
+  pub shuts-five : K → Soaks G → (κ : Lft) (q : Share) (x : RefT Watchdog) (s : Share) → Is-five (x .now) → Step K W (g ∷ settled κ q x (x .now) ∷ Γ) G (g ∷ looked κ q x s ∷ seen κ q x s ∷ Γ) G
+  shuts-five t z κ q x s is = step (λ k.
+      let b = x .ptr .0 in
+      let o = x .ptr .1 in
+      let w = x .now in
+      move t (2 ∷ 1 ∷ []) $ use1 W (‵ (cellAt s (five .mir) (word w ∷ []) b o)) (W .laws .at-raw s watchdog-laws.mir b o (word w)) $
+      owned t five (Is five) (Laws.makes watchdog.the-type watchdog-laws.the-plain 𝓤 H A) w (word w ∷ []) is $ move t (2 ∷ []) $ split t $ move t (3 ∷ 2 ∷ 0 ∷ []) $
+      shuts t z five s w (word w ∷ []) b o $ move t (1 ∷ 0 ∷ []) $ join t $ move t (1 ∷ 0 ∷ []) $ k)
