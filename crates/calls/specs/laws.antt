@@ -1,3 +1,2 @@
 pub mod Idle
 pub mod Boxes
-pub mod Lent

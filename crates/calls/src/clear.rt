@@ -4,8 +4,8 @@ use box_rules::Watchdog;
 use cleared::clear_run;
 use cleared::cleared_watchdog;
 
-// The box of a clear; the five numbers as the answer.
-pub fn clear_with(
+// The box of a clear, whatever memory held before; the five numbers as the answer.
+pub fn clear(
     sets: &mut [u64; 3],
     ends: &mut [u8; 128],
     rows: &mut [u8; 8],
@@ -22,35 +22,4 @@ pub fn clear_with(
     plan::load::clear(sets, ends, rows, reach, paths, spans, aims, numbers);
     clear_run(run, last);
     cleared_watchdog()
-}
-
-// The box of a clear, whatever memory held before.
-pub fn clear(
-    sets: &mut [u64; 3],
-    ends: &mut [u8; 128],
-    rows: &mut [u8; 8],
-    reach: &mut [u64; 8],
-    paths: &mut [u8; 1408],
-    spans: &mut [u8; 512],
-    aims: &mut [u64; 512],
-    numbers: &mut [u32; 6],
-    run: &mut [u64; 96],
-    last: &mut [u8; 1],
-    watchdog: &mut Watchdog,
-)
-    ensures { λ _. ⌜ ClearLeaves (memory (now (sets .exit)) (now (ends .exit)) (now (rows .exit)) (now (reach .exit)) (now (paths .exit)) (now (spans .exit)) (now (aims .exit)) (now (numbers .exit)) (now (run .exit)) (now (last .exit))) (now (watchdog .exit)) ⌝ }
-{
-    let five = clear_with(
-        sets,
-        ends,
-        rows,
-        reach,
-        paths,
-        spans,
-        aims,
-        numbers,
-        run,
-        last,
-    );
-    *watchdog = five;
 }

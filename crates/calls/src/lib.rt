@@ -1,4 +1,3 @@
-// The calls of the box: clear, load and step, in memory and five numbers that the caller lends.
+// Clear and load of the whole box, in memory that the caller lends; the five numbers as the answer.
 pub mod clear;
 pub mod load;
-pub mod step;

@@ -10,8 +10,8 @@ pub struct Loaded {
     pub watchdog: Watchdog,
 }
 
-// The box after a load; the five numbers with the answer.
-pub fn load_with(
+// The verdict on a file: 0, and the box holds its plan; or the first fault, and the box is that of a clear. The five numbers with the answer.
+pub fn load(
     file: &[u8],
     sets: &mut [u64; 3],
     ends: &mut [u8; 128],
@@ -40,38 +40,4 @@ pub fn load_with(
             greatest,
         },
     }
-}
-
-// The verdict on a file: 0, and the box holds its plan; or the first fault, and the box is that of a clear.
-pub fn load(
-    file: &[u8],
-    sets: &mut [u64; 3],
-    ends: &mut [u8; 128],
-    rows: &mut [u8; 8],
-    reach: &mut [u64; 8],
-    paths: &mut [u8; 1408],
-    spans: &mut [u8; 512],
-    aims: &mut [u64; 512],
-    numbers: &mut [u32; 6],
-    run: &mut [u64; 96],
-    last: &mut [u8; 1],
-    watchdog: &mut Watchdog,
-) -> Verdict
-    ensures { λ r. ⌜ LoadLeaves (now (file .entry)) r (memory (now (sets .exit)) (now (ends .exit)) (now (rows .exit)) (now (reach .exit)) (now (paths .exit)) (now (spans .exit)) (now (aims .exit)) (now (numbers .exit)) (now (run .exit)) (now (last .exit))) (now (watchdog .exit)) ⌝ }
-{
-    let done = load_with(
-        file,
-        sets,
-        ends,
-        rows,
-        reach,
-        paths,
-        spans,
-        aims,
-        numbers,
-        run,
-        last,
-    );
-    *watchdog = done.watchdog;
-    done.verdict
 }

@@ -10,9 +10,6 @@ ghost use Rattle.replies.specs.Texts.{overLongLine, Prints};
 ghost use Rattle.desk.specs.Replay.{fiveOf, kept, Loaded, Stepped, WrittenOut, Replied, Answers};
 use box_rules::Event;
 use box_rules::Watchdog;
-use calls::clear::clear_with;
-use calls::load::load_with;
-use events::step::step_with;
 use events::values::values_of;
 use hex::decode;
 use line::print::print_verdict;
@@ -69,7 +66,7 @@ fn load(
 {
     let mut file = file_room();
     let size = decode(word, &mut file);
-    let done = load_with(
+    let done = calls::load::load(
         &file[..size],
         sets,
         ends,
@@ -109,7 +106,7 @@ fn step(
         (kept (memory sets ends (now (rows .entry)) reach paths (now (spans .entry)) (now (aims .entry)) (now (numbers .entry)) (now (run .exit)) (now (last .exit))) (r .watchdog)))
         (now (out .entry)) (now (out .exit)) (r .end)) ⌝ }
 {
-    let done = step_with(
+    let done = events::step::step(
         rows,
         spans,
         aims,
@@ -295,7 +292,7 @@ pub fn answer(
             out,
         ),
         Command::Clear => {
-            let cleared = clear_with(
+            let cleared = calls::clear::clear(
                 sets,
                 ends,
                 rows,

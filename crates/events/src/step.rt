@@ -12,7 +12,7 @@ use timecodes::time::time_code;
 use watchdog::watch::Stepped;
 
 // Every event, the five numbers by value.
-pub fn step_with(
+pub fn step(
     rows: &[u8; 8],
     spans: &[u8; 512],
     aims: &[u64; 512],

@@ -11,7 +11,6 @@ use answers::end_line;
 use answers::flush;
 use answers::pass_over;
 use box_rules::Watchdog;
-use calls::clear::clear_with;
 use libc::STDERR_FILENO;
 use libc::STDIN_FILENO;
 use lines::shift;
@@ -248,7 +247,7 @@ fn main() {
     let mut numbers = [0u32; 6];
     let mut run = [0u64; 96];
     let mut last = [0u8; 1];
-    let cleared = clear_with(
+    let cleared = calls::clear::clear(
         &mut sets,
         &mut ends,
         &mut rows,

@@ -39,8 +39,8 @@ load-requires c κs = search needs
 enum-told-3 : tie.Need-enum-told-3
 enum-told-3 c = search needs
 
-clear-with-requires : tie.Need-clear-with-requires
-clear-with-requires c κs = search needs
+clear-requires : tie.Need-clear-requires
+clear-requires c κs = search needs
 
 slice-aggregate-put-word : tie.Need-slice-aggregate-put-word
 slice-aggregate-put-word c = search needs
@@ -135,7 +135,7 @@ returns-4 c =
     let e = c .before .before .before .before .before .before .before .before .before .before .before .before .before .before in
     let m = e .before .before in
     let a = m .before .before .args in
-    clear (a .line .now) (a .number) (m .command-of .ensures) _ (e .enum-told3 .given .1) (c .before .before .before .clear-with .ensures) (c .put-word .ensures)
+    clear (a .line .now) (a .number) (m .command-of .ensures) _ (e .enum-told3 .given .1) (c .before .before .before .clear .ensures) (c .put-word .ensures)
 
 returns-5 : tie.Need-returns-5
 returns-5 c =
@@ -201,7 +201,7 @@ answer-spec =
     part-load-end
     load-requires
     enum-told-3
-    clear-with-requires
+    clear-requires
     slice-aggregate-put-word
     put-word-requires
     enum-known-command-2

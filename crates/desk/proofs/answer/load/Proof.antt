@@ -22,14 +22,14 @@ array-share-prefix-file c =
     let b = d .before .before in
     front-within (decoded (length (b .file-room .result)) (b .before .before .args .word .now)) (b .file-room .result) (d .decode .result) (d .decode .ensures)
 
-slice-aggregate-load-with : tie.Need-slice-aggregate-load-with
-slice-aggregate-load-with c =
+slice-aggregate-load : tie.Need-slice-aggregate-load
+slice-aggregate-load c =
     let d = c .before .before in
     let b = d .before .before in
     front-size (decoded (length (b .file-room .result)) (b .before .before .args .word .now)) (b .file-room .result) (d .decode .result) (d .decode .ensures)
 
-load-with-requires : tie.Need-load-with-requires
-load-with-requires c κs = search needs
+load-requires : tie.Need-load-requires
+load-requires c κs = search needs
 
 print-verdict-requires : tie.Need-print-verdict-requires
 print-verdict-requires c κs = search needs
@@ -37,12 +37,12 @@ print-verdict-requires c κs = search needs
 array-share-prefix-line : tie.Need-array-share-prefix-line
 array-share-prefix-line c =
     let p = c .before in
-    front-within (line (p .before .before .before .load-with .result .verdict)) (replicate 40 0) (length (line (p .before .before .before .load-with .result .verdict))) (p .print-verdict .ensures)
+    front-within (line (p .before .before .before .load .result .verdict)) (replicate 40 0) (length (line (p .before .before .before .load .result .verdict))) (p .print-verdict .ensures)
 
 slice-aggregate-put : tie.Need-slice-aggregate-put
 slice-aggregate-put c =
     let p = c .before .before in
-    front-size (line (p .before .before .before .load-with .result .verdict)) (replicate 40 0) (length (line (p .before .before .before .load-with .result .verdict))) (p .print-verdict .ensures)
+    front-size (line (p .before .before .before .load .result .verdict)) (replicate 40 0) (length (line (p .before .before .before .load .result .verdict))) (p .print-verdict .ensures)
 
 put-requires : tie.Need-put-requires
 put-requires c κs = search needs
@@ -52,7 +52,7 @@ returns c =
     let p = c .before .before .before in
     let l = p .before .before .before in
     let d = l .before .before .before .before .before .before .before .before .before .before .before .before .before in
-    load-answers (d .before .before .before .before .args .word .now) (d .before .before .file-room .ensures) (d .decode .ensures) (replicate 40 0) (search needs) (l .load-with .ensures) (p .print-verdict .ensures) (c .put .ensures)
+    load-answers (d .before .before .before .before .args .word .now) (d .before .before .file-room .ensures) (d .decode .ensures) (replicate 40 0) (search needs) (l .load .ensures) (p .print-verdict .ensures) (c .put .ensures)
 
 pub load-spec : {M : Type 1} → statement M
 load-spec =
@@ -62,8 +62,8 @@ load-spec =
     slice-aggregate-decode
     decode-requires
     array-share-prefix-file
-    slice-aggregate-load-with
-    load-with-requires
+    slice-aggregate-load
+    load-requires
     print-verdict-requires
     array-share-prefix-line
     slice-aggregate-put

@@ -4,8 +4,8 @@ use Rattle.desk.proofs.answer.Told.{step-answers}
 use Rattle.desk.proofs.answer.step.Statement.{statement}
 use Rattle.desk.proofs.answer.step.Tie as tie
 
-step-with-requires : tie.Need-step-with-requires
-step-with-requires c κs = search needs
+step-requires : tie.Need-step-requires
+step-requires c κs = search needs
 
 values-of-requires : tie.Need-values-of-requires
 values-of-requires c κs = search needs
@@ -19,9 +19,9 @@ same-length c = search needs
 returns : tie.Need-returns
 returns c =
     let v = c .before .before .before .before in
-    λ sets ends reach paths. step-answers (v .before .before .before .before .step-with .ensures) (v .values-of .ensures) (c .put-event .ensures)
+    λ sets ends reach paths. step-answers (v .before .before .before .before .step .ensures) (v .values-of .ensures) (c .put-event .ensures)
 
 pub step-spec : {M : Type 1} → statement M
 step-spec =
     tie.close
-    (tie.spec step-with-requires values-of-requires put-event-requires same-length returns)
+    (tie.spec step-requires values-of-requires put-event-requires same-length returns)

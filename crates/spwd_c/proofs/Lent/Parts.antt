@@ -7,9 +7,7 @@ use base.Fml.{Fml, ftrue, fsep, flft}
 use prog.Wp.{Heap}
 use ghost.Atoms.{Atoms, sem}
 use contract.Lifetimes.{Lfts, Shares}
-use contract.Monad.{fact, factI}
-use types.Kit.{Given, ‵, raw, _⊛_, _$_, _∵_, !, qed, by, move, use0, use1, use2, split, join, fsplit, fjoin, drop, frame, done}
-use denote.Steps.{heard}
+use types.Kit.{Given, ‵, raw, _⊛_, _$_, _∵_, !, qed, by, move, use0, use1, use2, split, join, drop, frame, done}
 use denote.RattleType.{RattleType, Denots, Valss}
 use denote.Exit.{left}
 use denote.Signature.{Slot, typesAt}
@@ -103,16 +101,3 @@ module _ {M : Type 1} {𝓤 : URA M} {H : Heap 𝓤} {A : Atoms 𝓤} (W : Given
       → ent 𝓤 (sep 𝓤 (sem 𝓤 H A (beside Ts)) (sem 𝓤 H A (beside Ps))) (sep 𝓤 (sep 𝓤 (sem 𝓤 H A (beside Ts)) (sem 𝓤 H A (beside (with m P Ps)))) (emp 𝓤))
   asks-with m P Ts Ps makes =
       qed W (‵ (beside Ts) ∷ ‵ (beside Ps) ∷ []) ∵ use0 W (‵ P) makes $ move ! (0 ∷ 2 ∷ []) $ use2 W (‵ (beside (with m P Ps))) (puts-in m P Ps) $ move ! (1 ∷ 0 ∷ []) $ join ! $ frame ! $ done !
-
-  -- of what a second call says, the first part is put in among what the first call says
-  pub puts-first : (n : ℕ) (P : Fml) (Ps Qs : List Fml) → ent 𝓤 (sep 𝓤 (sem 𝓤 H A (beside (P ∷ Ps))) (sem 𝓤 H A (beside Qs))) (sem 𝓤 H A (beside (with n P Qs)))
-  puts-first n P Ps Qs = qed W (‵ (fsep P (beside Ps)) ∷ ‵ (beside Qs) ∷ []) ∵ fsplit ! $ move ! (1 ∷ []) $ drop ! $ by ! (puts-in n P Qs)
-
-  -- what a second call asks of one reference that was kept back, its token, and a value that is made for nothing
-  pub asks-second : (P T R : Fml) → ent 𝓤 (emp 𝓤) (sem 𝓤 H A R) → ent 𝓤 (sep 𝓤 (sem 𝓤 H A P) (sem 𝓤 H A T)) (sep 𝓤 (sep 𝓤 (sem 𝓤 H A (beside (T ∷ []))) (sem 𝓤 H A (beside (P ∷ R ∷ [])))) (emp 𝓤))
-  asks-second P T R makes =
-      qed W (‵ P ∷ ‵ T ∷ []) ∵ use0 W (‵ ftrue) (id⊢ 𝓤 (emp 𝓤)) $ use0 W (‵ R) makes $ fjoin ! $ move ! (1 ∷ 0 ∷ []) $ fjoin ! $
-      use0 W (‵ ftrue) (id⊢ 𝓤 (emp 𝓤)) $ move ! (2 ∷ 0 ∷ []) $ fjoin ! $ join ! $ frame ! $ done !
-
-  pub both-facts : {X Y Z : Type 0} → (X → Y → Z) → ent 𝓤 (sep 𝓤 (fact 𝓤 X) (fact 𝓤 Y)) (fact 𝓤 Z)
-  both-facts {X} {Y} {Z} f = qed W (raw (fact 𝓤 X) ∷ raw (fact 𝓤 Y) ∷ []) ∵ heard ! X (λ x. heard ! Y (λ y. by ! (factI 𝓤 Z (emp 𝓤) (f x y))))

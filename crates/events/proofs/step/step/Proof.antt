@@ -1,8 +1,8 @@
--- `step_with` meets its contract: the event is one of the four. Assumes nothing.
+-- `step` meets its contract: the event is one of the four. Assumes nothing.
 use Rattle.events.specs.laws.Events.{by-time-code, by-request, by-reply, by-reading}
 use borrow.Author.Needs.{needs}
-use Rattle.events.proofs.step.step_with.Statement.{statement}
-use Rattle.events.proofs.step.step_with.Tie as tie
+use Rattle.events.proofs.step.step.Statement.{statement}
+use Rattle.events.proofs.step.step.Tie as tie
 
 enum-known-event : tie.Need-enum-known-event
 enum-known-event c = search needs
@@ -63,8 +63,8 @@ returns-4 c =
     by-reading _ b (a .w) (a .event) (q .result .answer) (a .run .now) (a .last .now) (a .records .now) _ (q .result .watchdog) (c .before .before .event4 .given .1)
     (f .runs) (q .ensures b (f .plan .timed) _)
 
-pub step-with-spec : {M : Type 1} → statement M
-step-with-spec =
+pub step-spec : {M : Type 1} → statement M
+step-spec =
     tie.close
     (tie.spec
     enum-known-event

@@ -21,7 +21,7 @@ use denote.Triple.Entry.{Args, Res, alive, onEntry}
 use denote.Triple.Spec.{Spec, Back, tripleOf, Meets}
 use denote.Triple.Clauses.{Ended, Clauses, Lasts, atExit, lasts, ensured, closing}
 use Rattle.box_rules.specs.declared.Watchdog.{Watchdog}
-use Rattle.calls.specs.laws.Lent.Five.{five, settled}
+use Rattle.spwd_c.proofs.Lent.Five.{five, settled}
 
 module _ {M : Type 1} (𝓤 : URA M) (H : Heap 𝓤) (A : Atoms 𝓤) (W : Given 𝓤 H A) (S : Ended) (c : Clauses 𝓤 S) (y : tripleOf 𝓤 H A (S .signature) (closing 𝓤 H A S c) .Ghost) where
   abbrev κs : Lfts (S .signature .lifetimes)
@@ -69,25 +69,6 @@ module _ {M : Type 1} (𝓤 : URA M) (H : Heap 𝓤) (A : Atoms 𝓤) (W : Given
       (qed W ((back 𝓤 H A W S′ c′ y′ v′ r′ ws′ ⊛ settled κ q x w) ∷ []) ∵ split ! $ split ! $ split ! $ split ! $ move ! (1 ∷ []) $ drop ! $ move ! (3 ∷ []) $ split ! $
       move ! (1 ∷ 2 ∷ []) $ use2 W (raw (alive 𝓤 H A (S .signature) (y .0 .0) (y .0 .1))) ts $ use0 W (‵ (typeAt (S .signature .result) (y .0 .0) .own r (v ∷ []))) makes $ move ! (1 ∷ 0 ∷ []) $ join ! $
       move ! (1 ∷ 2 ∷ []) $ use2 W (‵ (lasts S (y .0 .0) (y .0 .3) ws)) ls $ move ! (1 ∷ 0 ∷ []) $ join ! $ move ! (1 ∷ []) $ use1 W (raw (Says 𝓤 H A W S c y r ws)) says $ move ! (1 ∷ 0 ∷ []) $ join ! $ done !)
-      (gives 𝓤 H A W S c y v r ws)
-
--- what a function gives, from what came of two calls. Its result is made for nothing
-module _ {M : Type 1} (𝓤 : URA M) (H : Heap 𝓤) (A : Atoms 𝓤) (W : Given 𝓤 H A) (S : Ended) (c : Clauses 𝓤 S) (y : tripleOf 𝓤 H A (S .signature) (closing 𝓤 H A S c) .Ghost)
-    (S′ : Ended) (c′ : Clauses 𝓤 S′) (y′ : tripleOf 𝓤 H A (S′ .signature) (closing 𝓤 H A S′ c′) .Ghost)
-    (S″ : Ended) (c″ : Clauses 𝓤 S″) (y″ : tripleOf 𝓤 H A (S″ .signature) (closing 𝓤 H A S″ c″) .Ghost) where
-  pub leaves-both : (v : Val) (r : Res (S .signature) (y .0 .0)) (ws : Lasts S (y .0 .0) (y .0 .3))
-      (v′ : Val) (r′ : Res (S′ .signature) (y′ .0 .0)) (ws′ : Lasts S′ (y′ .0 .0) (y′ .0 .3)) (v″ : Val) (r″ : Res (S″ .signature) (y″ .0 .0)) (ws″ : Lasts S″ (y″ .0 .0) (y″ .0 .3))
-      → ent 𝓤 (emp 𝓤) (sem 𝓤 H A (typeAt (S .signature .result) (y .0 .0) .own r (v ∷ [])))
-      → ent 𝓤 (sep 𝓤 (alive 𝓤 H A (S″ .signature) (y″ .0 .0) (y″ .0 .1)) (alive 𝓤 H A (S′ .signature) (y′ .0 .0) (y′ .0 .1))) (alive 𝓤 H A (S .signature) (y .0 .0) (y .0 .1))
-      → ent 𝓤 (sep 𝓤 (sem 𝓤 H A (lasts S″ (y″ .0 .0) (y″ .0 .3) ws″)) (sem 𝓤 H A (lasts S′ (y′ .0 .0) (y′ .0 .3) ws′))) (sem 𝓤 H A (lasts S (y .0 .0) (y .0 .3) ws))
-      → ent 𝓤 (sep 𝓤 (Says 𝓤 H A W S″ c″ y″ r″ ws″) (Says 𝓤 H A W S′ c′ y′ r′ ws′)) (Says 𝓤 H A W S c y r ws)
-      → ent 𝓤 (mean 𝓤 H A (back 𝓤 H A W S″ c″ y″ v″ r″ ws″ ⊛ back 𝓤 H A W S′ c′ y′ v′ r′ ws′)) (tripleOf 𝓤 H A (S .signature) (closing 𝓤 H A S c) .post y v)
-  leaves-both v r ws v′ r′ ws′ v″ r″ ws″ makes ts ls says =
-      via 𝓤 (mean 𝓤 H A (back 𝓤 H A W S c y v r ws))
-      (qed W ((back 𝓤 H A W S″ c″ y″ v″ r″ ws″ ⊛ back 𝓤 H A W S′ c′ y′ v′ r′ ws′) ∷ []) ∵ split ! $ split ! $ split ! $ split ! $ move ! (4 ∷ []) $ split ! $ split ! $ split ! $
-      move ! (1 ∷ []) $ drop ! $ move ! (4 ∷ []) $ drop ! $ move ! (3 ∷ 0 ∷ []) $ use2 W (raw (alive 𝓤 H A (S .signature) (y .0 .0) (y .0 .1))) ts $
-      use0 W (‵ (typeAt (S .signature .result) (y .0 .0) .own r (v ∷ []))) makes $ move ! (1 ∷ 0 ∷ []) $ join ! $ move ! (3 ∷ 1 ∷ []) $ use2 W (‵ (lasts S (y .0 .0) (y .0 .3) ws)) ls $
-      move ! (1 ∷ 0 ∷ []) $ join ! $ move ! (2 ∷ 1 ∷ []) $ use2 W (raw (Says 𝓤 H A W S c y r ws)) says $ move ! (1 ∷ 0 ∷ []) $ join ! $ done !)
       (gives 𝓤 H A W S c y v r ws)
 
 -- a function meets its contract, if it does so at its parameters' machine values
