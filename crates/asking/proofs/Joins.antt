@@ -6,12 +6,13 @@ use lib.ListN.{length}
 use borrow.Author.Tests.{le-leb, lt-leb}
 use Rattle.box_rules.specs.declared.Answer.{Answer}
 use Rattle.box_rules.specs.declared.Answer.the-variants.{Refused, Joined}
+use Rattle.plan_view.specs.View.{Owner}
 use Rattle.box_rules.specs.State.{Side}
 use Rattle.box_rules.specs.Turn.{join}
 use Rattle.initiators.specs.Run.{rowOf}
 use Rattle.asking.specs.Sides.{isFull, askedAnswer, askedSide}
 
-module _ (i : ℕ) (s : Side) (row : List ℕ) (t k n : ℕ) where
+module _ (i : Owner) (s : Side) (row : List ℕ) (t k n : ℕ) where
   abbrev Asked : Answer → Type 0
   Asked r = (r ≡ askedAnswer s) × (row ≡ rowOf i (askedSide t k n s))
 

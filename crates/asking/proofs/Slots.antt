@@ -1,30 +1,29 @@
 -- The entries of a row, slot by slot: none met so far permits the transaction, and what follows once one does or all are met.
 use mathlib.Core.Path.{_≡_, refl, sym, ap, _∙_}
 use mathlib.Core.Logic.{by-cases}
-use mathlib.Core.List.{List, [], List·Memᴰ}
+use mathlib.Core.List.{List, List·Memᴰ}
 use mathlib.Core.Option.{Option, none, some}
 use mathlib.Core.Bool.{Bool, true, false, _&&_}
 use Prim.Native.Nat.{ℕ, _+_, _≤_}
 use native.Mathlib.Decide.{decLt}
 use native.Mathlib.Omega.{arith}
-use lib.Dec.{eqb}
+use lib.Dec.{leb, eqb}
 use borrow.Author.Tests.{eqb-true, eq-eqb}
-use Rattle.lists.specs.Search.{any, isIn}
-use Rattle.lists.specs.Place.{atPlace}
+use Rattle.lists.specs.Search.{any}
 use Rattle.lists.specs.laws.Bools.{not-both, true-both}
 use Rattle.lists.specs.laws.Search.{any-intro, any-none}
 use Rattle.sets.specs.Set.{member}
 use Rattle.sets.specs.Laws.{member-empty}
 use Rattle.plan_rules.specs.Plan.{Plan, Entry}
-use Rattle.plan_rules.specs.Meaning.{initiators, entryAt, permits}
+use Rattle.plan_rules.specs.Meaning.{entryAt, permits}
 use Rattle.plan_rules.specs.laws.Sound.{Sound}
 use Rattle.plan_rules.specs.laws.Runs.{entry-at, found-at, permits-target}
-use Rattle.plan_memory.specs.Memory.{ofRow, spanOf, spansOf, aimOf, aimsOf}
-use Rattle.plan_view.specs.View.{Tells}
+use Rattle.plan_memory.specs.Memory.{ofRow, spansOf, aimOf, aimsOf}
+use Rattle.plan_view.specs.View.{Owner}
 use Rattle.box_rules.specs.Refuse.{mayStart}
 use Rattle.box_rules.specs.laws.Permitted.{permitted-by}
-use Rattle.asking.specs.Sides.{Tried, BarredAt, Barred}
-use Rattle.plan_view.specs.laws.Entries.{spanRead, targetsRead, entry-told}
+use Rattle.asking.specs.Sides.{Needs, Tried, BarredAt, Barred}
+use Rattle.plan_view.specs.laws.Entries.{spanRead, targetsRead, permits-told, entry-told}
 
 -- what is read at a slot, and the answer for it
 abbrev pub Spanned : List ℕ → ℕ → ℕ → ℕ → Type 0
@@ -34,73 +33,73 @@ abbrev pub Aimed : List ℕ → ℕ → ℕ → ℕ → Type 0
 Aimed aims row slot targets = (p : Plan) → Sound p → aims ≡ aimsOf p → targets ≡ targetsRead p row slot
 
 abbrev pub Permitted : ℕ → ℕ → ℕ → ℕ → Bool → Type 0
-Permitted targets span t n x = (p : Plan) (e : Entry) → Tells targets span e → x ≡ permits p e t n
+Permitted targets span t need x = x ≡ (member t targets && leb need span)
 
-module _ (spans aims : List ℕ) (row t n : ℕ) where
-  slots-begin : Barred spans aims row t n 0
+module _ (spans aims : List ℕ) (row t need : ℕ) where
+  slots-begin : Barred spans aims row t need 0
   slots-begin v h = absurd (omega arith)
 
-  slots-past : (slot : ℕ) → Barred spans aims row t n slot → BarredAt spans aims row t n slot → Barred spans aims row t n (slot + 1)
+  slots-past : (slot : ℕ) → Barred spans aims row t need slot → BarredAt spans aims row t need slot → Barred spans aims row t need (slot + 1)
   slots-past slot before here v h = by-cases (decLt v slot) (λ l. before v l) (λ l. at-slot (omega arith))
     where
-      at-slot : v ≡ slot → BarredAt spans aims row t n v
+      at-slot : v ≡ slot → BarredAt spans aims row t need v
       at-slot z = rw z here
 
-  module _ (slot targets span : ℕ) (x : Bool) (spanned : Spanned spans row slot span) (aimed : Aimed aims row slot targets) (told : Permitted targets span t n x) where
-    module _ (p : Plan) (i : ℕ) (ok : Sound p) (es : spans ≡ spansOf p) (ea : aims ≡ aimsOf p) (at : atPlace row (initiators p) ≡ some i) where
+  module _ (slot targets span : ℕ) (x : Bool) (spanned : Spanned spans row slot span) (aimed : Aimed aims row slot targets) (told : Permitted targets span t need x) where
+    module _ (p : Plan) (i n : ℕ) (h : Needs spans aims row t need p i n) where
       some-here : (e : Entry) → entryAt (p .entries) i slot ≡ some e → x ≡ permits p e t n
-      some-here e h = told p e ((entry-told p ok row i at slot span (spanned p ok es) e h targets (aimed p ok ea)) .1)
+      some-here e is =
+          let o : Owner = record { plan = p; initiator = i } in
+          let tells = (entry-told p (h .sound) row i (h .row) slot span (spanned p (h .sound) (h .spans)) e is targets (aimed p (h .sound) (h .aims))) .1 in
+          told ∙ ap (λ (k : ℕ). member t targets && leb k span) (h .need) ∙ permits-told o targets span e tells t n
 
       -- the empty set of targets, read where no entry stands, permits nothing
       none-here : entryAt (p .entries) i slot ≡ none → x ≡ false
-      unfolding permits any isIn ofRow spanOf aimOf
-      none-here h = told p (record { initiator = 0; slot = 0; span = 0; targets = [] }) (record { targets = empty; span = sym (spanned p ok es ∙ here spanOf) })
+      unfolding ofRow aimOf
+      none-here is = told ∙ ap (λ (b : Bool). b && leb need span) (ap (member t) (aimed p (h .sound) (h .aims) ∙ here) ∙ member-empty t)
         where
-          here : (f : Option Entry → ℕ) → ofRow p row (λ (j : ℕ). f (entryAt (p .entries) j slot)) ≡ f none
-          here f = rw (at, ofRow, h)
+          here : ofRow p row (λ (j : ℕ). aimOf (entryAt (p .entries) j slot)) ≡ 0
+          here = rw (h .row, ofRow, is)
 
-          empty : (u : ℕ) → isIn u [] ≡ member u targets
-          empty u = sym (ap (member u) (aimed p ok ea ∙ here aimOf) ∙ member-empty u)
+    pub slots-next : Barred spans aims row t need slot → x ≡ false → Barred spans aims row t need (slot + 1)
+    slots-next before no′ = slots-past slot before (λ p i n h e is. sym (some-here p i n h e is) ∙ no′)
 
-    pub slots-next : Barred spans aims row t n slot → x ≡ false → Barred spans aims row t n (slot + 1)
-    slots-next before no′ = slots-past slot before (λ p i ok es ea at e is. sym (some-here p i ok es ea at e is) ∙ no′)
-
-    pub slots-met : x ≡ true → Tried spans aims row t n true
+    pub slots-met : x ≡ true → Tried spans aims row t need true
     unfolding mayStart
-    slots-met yes′ p i ok es ea at = go (entryAt (p .entries) i slot) refl
+    slots-met yes′ p i n h = go (entryAt (p .entries) i slot) refl
       where
         go : (o : Option Entry) → entryAt (p .entries) i slot ≡ o → true ≡ any (λ (e : Entry). eqb i (e .initiator) && permits p e t n) (p .entries)
-        go none h = not-both yes′ (none-here p i ok es ea at h)
-        go (some e) h =
-            let s = entry-at (p .entries) i slot e h in
-            sym (any-intro _ (p .entries) e (s .has) (true-both (eq-eqb i (e .initiator) (sym (s .own))) (sym (some-here p i ok es ea at e h) ∙ yes′)))
+        go none is = not-both yes′ (none-here p i n h is)
+        go (some e) is =
+            let s = entry-at (p .entries) i slot e is in
+            sym (any-intro _ (p .entries) e (s .has) (true-both (eq-eqb i (e .initiator) (sym (s .own))) (sym (some-here p i n h e is) ∙ yes′)))
 
   -- slot 0, tried by itself
-  pub slots-first : (targets span : ℕ) (x : Bool) → Spanned spans row 0 span → Aimed aims row 0 targets → Permitted targets span t n x → x ≡ false → Barred spans aims row t n 1
+  pub slots-first : (targets span : ℕ) (x : Bool) → Spanned spans row 0 span → Aimed aims row 0 targets → Permitted targets span t need x → x ≡ false → Barred spans aims row t need 1
   slots-first targets span x spanned aimed told no′ = slots-next 0 targets span x spanned aimed told slots-begin no′
 
   -- a slot whose entry lacks the target
-  pub slots-lack : (slot targets : ℕ) → Aimed aims row slot targets → member t targets ≡ false → Barred spans aims row t n slot → Barred spans aims row t n (slot + 1)
+  pub slots-lack : (slot targets : ℕ) → Aimed aims row slot targets → member t targets ≡ false → Barred spans aims row t need slot → Barred spans aims row t need (slot + 1)
   unfolding permits
   slots-lack slot targets aimed z before =
-      slots-past slot before (λ p i ok es ea at e is.
-      let told = (entry-told p ok row i at slot (spanRead p row slot) refl e is targets (aimed p ok ea)) .1 in
+      slots-past slot before (λ p i n h e is.
+      let told = (entry-told p (h .sound) row i (h .row) slot (spanRead p row slot) refl e is targets (aimed p (h .sound) (h .aims))) .1 in
       rw (told .targets t, z))
 
   -- no entry has such a target
-  pub slots-beyond : 64 ≤ t → Tried spans aims row t n false
-  slots-beyond h p i ok es ea at = go (mayStart p (p .entries) i t n) refl
+  pub slots-beyond : 64 ≤ t → Tried spans aims row t need false
+  slots-beyond beyond p i n h = go (mayStart p (p .entries) i t n) refl
     where
       go : (x : Bool) → mayStart p (p .entries) i t n ≡ x → false ≡ x
-      go true z = let (e, m, own, fit) = permitted-by p (p .entries) i t n z in absurd (omega (arith, ok .targets e m t (permits-target p e t n fit)))
+      go true z = let (e, m, own, fit) = permitted-by p (p .entries) i t n z in absurd (omega (arith, h .sound .targets e m t (permits-target p e t n fit)))
       go false z = refl
 
-  pub slots-done : (slot : ℕ) → 64 ≤ slot → Barred spans aims row t n slot → Tried spans aims row t n false
+  pub slots-done : (slot : ℕ) → 64 ≤ slot → Barred spans aims row t need slot → Tried spans aims row t need false
   unfolding mayStart
-  slots-done slot all before p i ok es ea at = sym (any-none _ (p .entries) (λ e m. go e m (eqb i (e .initiator)) refl))
+  slots-done slot all before p i n h = sym (any-none _ (p .entries) (λ e m. go e m (eqb i (e .initiator)) refl))
     where
       go : (e : Entry) → List·Memᴰ e (p .entries) → (x : Bool) → eqb i (e .initiator) ≡ x → x && permits p e t n ≡ false
-      go e m true h =
-          let z = eqb-true i (e .initiator) h in
-          before (e .slot) (omega (arith, ok .slots e m)) p i ok es ea at e (rw z (found-at p ok e m))
-      go e m false h = refl
+      go e m true own =
+          let z = eqb-true i (e .initiator) own in
+          before (e .slot) (omega (arith, h .sound .slots e m)) p i n h e (rw z (found-at p (h .sound) e m))
+      go e m false own = refl

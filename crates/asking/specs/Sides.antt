@@ -13,24 +13,31 @@ use mathlib.Core.List.{List}
 use mathlib.Core.Option.{some}
 use Rattle.lists.specs.Place.{atPlace}
 use Rattle.plan_rules.specs.Plan.{Plan, Entry}
-use Rattle.plan_rules.specs.Meaning.{initiators, entryAt, permits}
+use Rattle.plan_rules.specs.Meaning.{initiators, leastSpan, entryAt, permits}
 use Rattle.plan_rules.specs.laws.Sound.{Sound}
 use Rattle.plan_memory.specs.Memory.{spansOf, aimsOf}
 use Rattle.box_rules.specs.Refuse.{mayStart}
 
--- r tells whether some entry of the row permits the target t with the length n
-abbrev pub Tried : (spans aims : List ℕ) (row t n : ℕ) → Bool → Type 0
-Tried spans aims row t n r = (p : Plan) (i : ℕ) → Sound p → spans ≡ spansOf p → aims ≡ aimsOf p → atPlace row (initiators p) ≡ some i → r ≡ mayStart p (p .entries) i t n
+-- memory is that of plan p, the row that of initiator i, and a request to target t with n data bytes needs so long a span
+pub record Needs (spans′ aims′ : List ℕ) (row′ t need′ : ℕ) (p : Plan) (i n : ℕ) : Type 0 where
+  pub sound : Sound p
+  pub spans : spans′ ≡ spansOf p
+  pub aims : aims′ ≡ aimsOf p
+  pub row : atPlace row′ (initiators p) ≡ some i
+  pub need : need′ ≡ leastSpan p i t n
+
+-- r tells whether some entry of the row permits a request to target t that needs so long a span
+abbrev pub Tried : (spans aims : List ℕ) (row t need : ℕ) → Bool → Type 0
+Tried spans aims row t need r = (p : Plan) (i n : ℕ) → Needs spans aims row t need p i n → r ≡ mayStart p (p .entries) i t n
 
 -- an entry of the row at this slot does not permit it
-abbrev pub BarredAt : (spans aims : List ℕ) (row t n slot : ℕ) → Type 0
-BarredAt spans aims row t n slot =
-    (p : Plan) (i : ℕ) → Sound p → spans ≡ spansOf p → aims ≡ aimsOf p → atPlace row (initiators p) ≡ some i
-    → (e : Entry) → entryAt (p .entries) i slot ≡ some e → permits p e t n ≡ false
+abbrev pub BarredAt : (spans aims : List ℕ) (row t need slot : ℕ) → Type 0
+BarredAt spans aims row t need slot =
+    (p : Plan) (i n : ℕ) → Needs spans aims row t need p i n → (e : Entry) → entryAt (p .entries) i slot ≡ some e → permits p e t n ≡ false
 
 -- none at a slot before this one does
-abbrev pub Barred : (spans aims : List ℕ) (row t n slot : ℕ) → Type 0
-Barred spans aims row t n slot = (v : ℕ) → v < slot → BarredAt spans aims row t n v
+abbrev pub Barred : (spans aims : List ℕ) (row t need slot : ℕ) → Type 0
+Barred spans aims row t need slot = (v : ℕ) → v < slot → BarredAt spans aims row t need v
 
 -- a request that the plan permits: 26, or its number
 unfoldable pub isFull : Side → Bool

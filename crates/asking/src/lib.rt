@@ -2,18 +2,12 @@
 ghost use mathlib.Core.Path.{_≡_};
 ghost use mathlib.Core.Bool.{true, false};
 ghost use mathlib.Core.List.{List};
-ghost use mathlib.Core.Option.{some};
-ghost use Prim.Native.Nat.{ℕ, _<_};
-ghost use lib.ListN as lists;
-ghost use Rattle.lists.specs.Place.{atPlace};
+ghost use Prim.Native.Nat.{ℕ};
 ghost use Rattle.plan_rules.specs.Plan.{Plan};
-ghost use Rattle.plan_rules.specs.Meaning.{initiators};
-ghost use Rattle.plan_rules.specs.laws.Sound.{Sound};
-ghost use Rattle.plan_memory.specs.Memory.{spansOf, aimsOf};
+ghost use Rattle.plan_rules.specs.Meaning.{leastSpan};
 ghost use Rattle.box_rules.specs.State.{Side};
-ghost use Rattle.box_rules.specs.Refuse.{mayStart};
 ghost use Rattle.box_rules.specs.laws.Fit.{FitSide};
-ghost use Rattle.initiators.specs.Run.{rowOf, changed, rowsWith};
+ghost use Rattle.initiators.specs.Run.{rowOf};
 ghost use Rattle.initiators.specs.Row.{IsRow};
 ghost use Rattle.asking.specs.Sides.{Tried, Barred, askedAnswer, askedSide};
 use box_rules::Answer;
@@ -38,11 +32,10 @@ fn lacks(aims: &[u64; 512], row: usize, target: u8) -> bool
     !has(all, target)
 }
 
-// 25: some entry of the row permits the target with the length. None has a target over 63. The first is tried by itself: a target that
-// is permitted often is permitted there.
-pub fn may_start(spans: &[u8; 512], aims: &[u64; 512], row: usize, target: u8, length: u16) -> bool
-    ensures { λ r. ⌜ ((p : Plan) (i : ℕ) → Sound p → now (spans .entry) ≡ spansOf p → now (aims .entry) ≡ aimsOf p → atPlace row (initiators p) ≡ some i →
-        r ≡ mayStart p (p .entries) i target length) ⌝ }
+// 25: some entry of the row permits the target with so long a span as the request needs. None has a target over 63. The first is tried by
+// itself: a target that is permitted often is permitted there.
+pub fn may_start(spans: &[u8; 512], aims: &[u64; 512], row: usize, target: u8, need: u8) -> bool
+    ensures { λ r. ⌜ Tried (now (spans .entry)) (now (aims .entry)) row target need r ⌝ }
 {
     if 64 <= target {
         return false;
@@ -51,7 +44,7 @@ pub fn may_start(spans: &[u8; 512], aims: &[u64; 512], row: usize, target: u8, l
         targets_at(aims, row, 0),
         span_at(spans, row, 0),
         target,
-        length,
+        need,
     ) {
         return true;
     }
@@ -64,7 +57,7 @@ pub fn may_start(spans: &[u8; 512], aims: &[u64; 512], row: usize, target: u8, l
             targets_at(aims, row, slot),
             span_at(spans, row, slot),
             target,
-            length,
+            need,
         ) {
             return true;
         }
@@ -74,28 +67,21 @@ pub fn may_start(spans: &[u8; 512], aims: &[u64; 512], row: usize, target: u8, l
 }
 
 // A request that the plan permits: refusal 26, or it joins the line.
-fn ask_row(row: &mut [u64], initiator: u8, target: u8, kind: u8, length: u16) -> Answer
+pub fn ask_row(
+    row: &mut [u64],
+    initiator: u8,
+    target: u8,
+    kind: u8,
+    need: u8,
+    length: u16,
+) -> Answer
     requires { ⌜ IsRow (now row) ⌝ }
-    ensures { λ r. ⌜ ((s : Side) → FitSide s → now (row .entry) ≡ rowOf initiator s → (r ≡ askedAnswer s) × (now (row .exit) ≡ rowOf initiator (askedSide target kind length s))) ⌝ }
+    ensures { λ r. ⌜ ((p : Plan) (s : Side) → FitSide s → need ≡ leastSpan p initiator target length → now (row .entry) ≡ rowOf (record { plan = p; initiator = initiator }) s →
+        (r ≡ askedAnswer s) × (now (row .exit) ≡ rowOf (record { plan = p; initiator = initiator }) (askedSide target kind length s))) ⌝ }
 {
     if 8 <= waiting(row) {
         return Answer::Refused { number: 26 };
     }
-    let number = join_row(row, initiator, target, kind, length);
+    let number = join_row(row, initiator, target, kind, need, length);
     Answer::Joined { number }
-}
-
-// The same in run memory, where the row is the initiator's.
-pub fn ask(run: &mut [u64], row: usize, initiator: u8, target: u8, kind: u8, length: u16) -> Answer
-    requires { ⌜ (lists.length (now run) ≡ 96) × (row < 8) ⌝ }
-    ensures { λ r. ⌜ ((n : ℕ → ℕ) (s : ℕ → Side) → n row ≡ initiator → ((k : ℕ) → FitSide (s k)) → now (run .entry) ≡ rowsWith n s →
-        (r ≡ askedAnswer (s row)) × (now (run .exit) ≡ rowsWith n (changed row (askedSide target kind length (s row)) s))) ⌝ }
-{
-    ask_row(
-        &mut run[row * 12..row * 12 + 12],
-        initiator,
-        target,
-        kind,
-        length,
-    )
 }

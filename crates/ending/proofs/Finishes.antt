@@ -11,6 +11,7 @@ use Rattle.lists.specs.Search.{isSome}
 use Rattle.lists.specs.laws.Bools.{not-both}
 use Rattle.box_rules.specs.declared.Answer.{Answer}
 use Rattle.box_rules.specs.declared.Answer.the-variants.{Refused, Ended}
+use Rattle.plan_view.specs.View.{Owner}
 use Rattle.box_rules.specs.State.{Side, Live}
 use Rattle.box_rules.specs.Turn.{finish, class}
 use Rattle.box_rules.specs.Refuse.{isLiveNumber}
@@ -32,7 +33,7 @@ module _ (m : ℕ) where
   end-told none h = not-both h refl
   end-told (some l) h = refl
 
-module _ (i : ℕ) (s : Side) (row : List ℕ) (m status : ℕ) where
+module _ (i : Owner) (s : Side) (row : List ℕ) (m status : ℕ) where
   abbrev Replied : Answer → Type 0
   Replied r = (r ≡ repliedAnswer m status s) × (row ≡ rowOf i (repliedSide m s))
 

@@ -1,11 +1,10 @@
 // A reply of an initiator: refusals 27 and 28, or the end of the live transaction with the class of its status.
 ghost use mathlib.Core.Path.{_≡_};
-ghost use Prim.Native.Nat.{ℕ, _<_};
-ghost use lib.ListN.{length};
+ghost use Rattle.plan_view.specs.View.{Owner};
 ghost use Rattle.box_rules.specs.State.{Side};
 ghost use Rattle.box_rules.specs.Turn.{class};
 ghost use Rattle.box_rules.specs.laws.Fit.{FitSide};
-ghost use Rattle.initiators.specs.Run.{rowOf, changed, rowsWith};
+ghost use Rattle.initiators.specs.Run.{rowOf};
 ghost use Rattle.initiators.specs.Row.{IsRow};
 ghost use Rattle.ending.specs.Sides.{repliedAnswer, repliedSide};
 use box_rules::Answer;
@@ -27,9 +26,9 @@ pub fn class_of(status: u8) -> u8
 }
 
 // A reply of an initiator: refusal 27 or 28, or it ends the live transaction.
-fn end_row(row: &mut [u64], number: u16, status: u8) -> Answer
+pub fn end_row(row: &mut [u64], number: u16, status: u8) -> Answer
     requires { ⌜ IsRow (now row) ⌝ }
-    ensures { λ r. ⌜ ((i : ℕ) (s : Side) → FitSide s → now (row .entry) ≡ rowOf i s → (r ≡ repliedAnswer number status s) × (now (row .exit) ≡ rowOf i (repliedSide number s))) ⌝ }
+    ensures { λ r. ⌜ ((o : Owner) (s : Side) → FitSide s → now (row .entry) ≡ rowOf o s → (r ≡ repliedAnswer number status s) × (now (row .exit) ≡ rowOf o (repliedSide number s))) ⌝ }
 {
     if !has_live(row) {
         return Answer::Refused { number: 27 };
@@ -47,13 +46,4 @@ fn end_row(row: &mut [u64], number: u16, status: u8) -> Answer
         status,
         class,
     }
-}
-
-// The same in run memory.
-pub fn end(run: &mut [u64], row: usize, number: u16, status: u8) -> Answer
-    requires { ⌜ (length (now run) ≡ 96) × (row < 8) ⌝ }
-    ensures { λ r. ⌜ ((n : ℕ → ℕ) (s : ℕ → Side) → ((k : ℕ) → FitSide (s k)) → now (run .entry) ≡ rowsWith n s →
-        (r ≡ repliedAnswer number status (s row)) × (now (run .exit) ≡ rowsWith n (changed row (repliedSide number (s row)) s))) ⌝ }
-{
-    end_row(&mut run[row * 12..row * 12 + 12], number, status)
 }

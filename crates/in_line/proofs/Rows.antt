@@ -12,11 +12,12 @@ use Rattle.box_rules.specs.State.{Side}
 use Rattle.box_rules.specs.Turn.{asked, join}
 use Rattle.box_rules.specs.laws.Fit.{FitSide}
 use Rattle.initiators.specs.Run.{wordOf, liveWord, liveTime, rowOf}
-use Rattle.in_line.specs.Line.{HasRoom, leaves}
+use Rattle.plan_view.specs.View.{Owner}
+use Rattle.in_line.specs.Line.{leaves}
 use Rattle.initiators.specs.laws.Words.{eight}
 use Rattle.initiators.specs.laws.RowWords.{next-at, count-at}
 
-module _ (m : ℕ) (s : Side) (f : FitSide s) (row : List ℕ) (is : row ≡ rowOf m s) where
+module _ (m : Owner) (s : Side) (f : FitSide s) (row : List ℕ) (is : row ≡ rowOf m s) where
   words : List ℕ
   words = map (wordOf m) (s .line)
 
@@ -28,7 +29,7 @@ module _ (m : ℕ) (s : Side) (f : FitSide s) (row : List ℕ) (is : row ≡ row
   rest = liveWord m (s .live) ∷ liveTime (s .live) ∷ []
 
   -- one more joins the line
-  pub joined : (t k n w i : ℕ) → HasRoom s → w ≡ wordOf m (asked t k n s) → i ≡ (s .next + 1) % 65_536
+  pub joined : (t k n w i : ℕ) → length (s .line) < 8 → w ≡ wordOf m (asked t k n s) → i ≡ (s .next + 1) % 65_536
       → set (set (set row (getD row 1 0 + 2) w) 1 (getD row 1 0 + 1)) 0 i ≡ rowOf m (join t k n s)
   unfolding rowOf join words rest
   joined t k n w i room ew ei =
@@ -48,7 +49,7 @@ module _ (m : ℕ) (s : Side) (f : FitSide s) (row : List ℕ) (is : row ≡ row
   number-at = omega (arith, next-at m s f row is, f .next)
 
   -- the word and the next number as the code has them
-  pub joins : (t k n w i : ℕ) → HasRoom s → w ≡ wordOf m (record { target = t; kind = k; length = n; number = getD row 0 0 % 65_536 })
+  pub joins : (t k n w i : ℕ) → length (s .line) < 8 → w ≡ wordOf m (record { target = t; kind = k; length = n; number = getD row 0 0 % 65_536 })
       → i ≡ (getD row 0 0 % 65_536 + 1) % 65_536
       → (getD row 0 0 % 65_536 ≡ s .next) × (set (set (set row (getD row 1 0 + 2) w) 1 (getD row 1 0 + 1)) 0 i ≡ rowOf m (join t k n s))
   unfolding asked

@@ -1,15 +1,20 @@
 -- What an entry permits, told from a request's word.
 use mathlib.Core.Path.{_≡_}
 use Prim.Native.Nat.{ℕ}
-use Rattle.plan_rules.specs.Plan.{Plan, Entry}
-use Rattle.plan_rules.specs.Meaning.{permits}
+use mathlib.Core.Bool.{_&&_}
+use lib.Dec.{leb}
+use Rattle.sets.specs.Set.{member}
+use Rattle.plan_rules.specs.Plan.{Entry}
+use Rattle.plan_view.specs.View.{Owner, Tells}
+use Rattle.plan_view.specs.laws.Entries.{permits-told}
 use Rattle.box_rules.specs.State.{Request}
 use Rattle.box_rules.specs.Turn.{allows}
 use Rattle.box_rules.specs.laws.Fit.{FitRequest}
-use Rattle.initiators.specs.Run.{wordOf, targetIn, lengthIn}
-use Rattle.initiators.specs.laws.Words.{apart}
+use Rattle.initiators.specs.Run.{wordOf, targetIn, needIn}
+use Rattle.initiators.specs.laws.Words.{apart, need-in}
 
-pub allows-word : (p : Plan) (e : Entry) (n : ℕ) (r : Request) → FitRequest r → (word target length : ℕ) → word ≡ wordOf n r → target ≡ targetIn word
-    → length ≡ lengthIn word → permits p e target length ≡ allows p e r
+pub allows-word : (n : Owner) (e : Entry) (r : Request) (targets span : ℕ) → Tells n targets span e → FitRequest r → (word target need : ℕ) → word ≡ wordOf n r
+    → target ≡ targetIn word → need ≡ needIn word → member target targets && leb need span ≡ allows (n .plan) e r
 unfolding allows
-allows-word p e n r f word target length is t l = let a = apart n r f in rw (t, l, is, a .target, a .length)
+allows-word n e r targets span tells f word target need is t l =
+    rw (t, l, is, (apart n r f) .target, need-in n r f) (permits-told n targets span e tells (r .target) (r .length))

@@ -3,19 +3,20 @@
 ghost use mathlib.Core.Path.{_≡_};
 ghost use mathlib.Core.List.{[], _∷_, _++_};
 ghost use mathlib.Core.Bool.{true};
-ghost use Prim.Native.Nat.{ℕ, _+_, _%_, _<_};
+ghost use Prim.Native.Nat.{_+_, _%_, _<_};
 ghost use lib.ListN.{length, getD};
 ghost use lib.Dec.{eqb};
 ghost use Rattle.lists.specs.Place.{first, without};
 ghost use Rattle.plan_rules.specs.Plan.{Plan, Entry};
+ghost use Rattle.plan_rules.specs.Meaning.{leastSpan};
 ghost use Rattle.box_rules.specs.State.{Side, Request};
 ghost use Rattle.box_rules.specs.Turn.{join, allows};
 ghost use Rattle.box_rules.specs.laws.Fit.{FitSide, FitRequest};
-ghost use Rattle.plan_view.specs.View.{placeOr, Tells};
+ghost use Rattle.plan_view.specs.View.{placeOr, Owner, Tells};
 ghost use Rattle.initiators.specs.Run.{rowOf, wordOf};
 ghost use Rattle.initiators.specs.Row.{IsRow};
-ghost use Rattle.in_line.specs.Line.{HasRoom, leaves};
-use initiators::word::length_in;
+ghost use Rattle.in_line.specs.Line.{leaves};
+use initiators::word::need_in;
 use initiators::word::target_in;
 use initiators::word::word_of;
 use plan_view::entry::permits;
@@ -27,17 +28,15 @@ fn next_number(number: u16) -> u16
     std::num::wrapping_add_u16(number, 1)
 }
 
-// "Joins its initiator's line and gets that initiator's next 16-bit transaction number"
-pub fn join_row(row: &mut [u64], initiator: u8, target: u8, kind: u8, length: u16) -> u16
-    requires { ⌜ IsRow (now row) ⌝ }
-    ensures { λ r. ⌜ ((s : Side) → FitSide s → now (row .entry) ≡ rowOf initiator s → HasRoom s → (r ≡ s .next) × (now (row .exit) ≡ rowOf initiator (join target kind length s))) ⌝ }
+// "Joins its initiator's line and gets that initiator's next 16-bit transaction number": a request that needs so long a span
+pub fn join_row(row: &mut [u64], initiator: u8, target: u8, kind: u8, need: u8, length: u16) -> u16
+    requires { ⌜ IsRow (now row) × (getD (now row) 1 0 < 8) ⌝ }
+    ensures { λ r. ⌜ ((p : Plan) (s : Side) → FitSide s → need ≡ leastSpan p initiator target length → now (row .entry) ≡ rowOf (record { plan = p; initiator = initiator }) s →
+        (r ≡ s .next) × (now (row .exit) ≡ rowOf (record { plan = p; initiator = initiator }) (join target kind length s))) ⌝ }
 {
     let n = row[1] as usize;
     let number = (row[0] % 65536) as u16;
-    if n >= 8 {
-        return number;
-    }
-    row[n + 2] = word_of(initiator, target, kind, length, number);
+    row[n + 2] = word_of(initiator, target, kind, need, length, number);
     row[1] = n as u64 + 1;
     row[0] = next_number(number) as u64;
     number
@@ -45,16 +44,16 @@ pub fn join_row(row: &mut [u64], initiator: u8, target: u8, kind: u8, length: u1
 
 // Whether an entry with these targets and this span permits the request of a word.
 fn permits_word(word: u64, targets: u64, span: u8) -> bool
-    ensures { λ b. ⌜ ((p : Plan) (e : Entry) (i : ℕ) (r : Request) → Tells targets span e → FitRequest r → word ≡ wordOf i r → b ≡ allows p e r) ⌝ }
+    ensures { λ b. ⌜ ((o : Owner) (e : Entry) (r : Request) → Tells o targets span e → FitRequest r → word ≡ wordOf o r → b ≡ allows (o .plan) e r) ⌝ }
 {
-    permits(targets, span, target_in(word), length_in(word))
+    permits(targets, span, target_in(word), need_in(word))
 }
 
 // Whether a request waits and the entry permits the oldest.
 pub fn permits_oldest(row: &[u64], targets: u64, span: u8) -> bool
     requires { ⌜ IsRow (now row) ⌝ }
     ensures { λ r. ⌜ (r ≡ true → 0 < getD (now (row .entry)) 1 0) ⌝ }
-    ensures { λ r. ⌜ ((i : ℕ) (s : Side) → FitSide s → now (row .entry) ≡ rowOf i s → (p : Plan) (e : Entry) → Tells targets span e → r ≡ eqb (placeOr 8 (first (allows p e) (s .line))) 0) ⌝ }
+    ensures { λ r. ⌜ ((o : Owner) (s : Side) → FitSide s → now (row .entry) ≡ rowOf o s → (e : Entry) → Tells o targets span e → r ≡ eqb (placeOr 8 (first (allows (o .plan) e) (s .line))) 0) ⌝ }
 {
     if row[1] == 0 {
         return false;
@@ -66,7 +65,7 @@ pub fn permits_oldest(row: &[u64], targets: u64, span: u8) -> bool
 pub fn find_row(row: &[u64], targets: u64, span: u8) -> usize
     requires { ⌜ IsRow (now row) ⌝ }
     ensures { λ r. ⌜ (r < 8 → r < getD (now (row .entry)) 1 0) ⌝ }
-    ensures { λ r. ⌜ ((i : ℕ) (s : Side) → FitSide s → now (row .entry) ≡ rowOf i s → (p : Plan) (e : Entry) → Tells targets span e → r ≡ placeOr 8 (first (allows p e) (s .line))) ⌝ }
+    ensures { λ r. ⌜ ((o : Owner) (s : Side) → FitSide s → now (row .entry) ≡ rowOf o s → (e : Entry) → Tells o targets span e → r ≡ placeOr 8 (first (allows (o .plan) e) (s .line))) ⌝ }
 {
     let n = row[1] as usize;
     let mut i = 0;
@@ -113,7 +112,7 @@ fn move_up(places: &mut [u64], k: usize)
 // The request at place k leaves the line.
 pub fn take_row(row: &mut [u64], k: usize)
     requires { ⌜ IsRow (now row) × (k < 8) × (k < getD (now row) 1 0) ⌝ }
-    ensures { λ r. ⌜ ((i : ℕ) (s : Side) → FitSide s → now (row .entry) ≡ rowOf i s → now (row .exit) ≡ rowOf i (leaves k s)) ⌝ }
+    ensures { λ r. ⌜ ((o : Owner) (s : Side) → FitSide s → now (row .entry) ≡ rowOf o s → now (row .exit) ≡ rowOf o (leaves k s)) ⌝ }
 {
     let n = row[1];
     move_up(&mut row[2..10], k);

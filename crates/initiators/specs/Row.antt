@@ -9,6 +9,9 @@ use Rattle.box_rules.specs.State.{Request, Live}
 abbrev pub IsRow : List ℕ → Type 0
 IsRow row = length row ≡ 12
 
+abbrev pub IsRun : List ℕ → Type 0
+IsRun run = length run ≡ 96
+
 -- the live transaction's request, all of it 0 where there is none
 unfoldable pub liveRequest : Option Live → Request
 liveRequest none = record { target = 0; kind = 0; length = 0; number = 0 }

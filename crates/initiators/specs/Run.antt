@@ -11,27 +11,32 @@ use Rattle.lists.specs.Search.{upFrom}
 use Rattle.lists.specs.Place.{atPlace}
 use Rattle.lists.specs.Cells.{padded}
 use Rattle.plan_rules.specs.Plan.{Plan}
-use Rattle.plan_rules.specs.Meaning.{initiators}
-use Rattle.plan_memory.specs.Memory.{ofRow}
+use Rattle.plan_rules.specs.Meaning.{initiators, leastSpan}
+use Rattle.plan_view.specs.View.{Owner, ownerOf}
 use Rattle.box_rules.specs.State.{Request, Live, Side, Box, idle, thePlan}
 
 -- two bytes in the other order
 unfoldable pub swapped : ℕ → ℕ
 swapped n = n / 256 + n % 256 * 256
 
--- a request of initiator i as one word: the eight bytes of its records, the first the lowest, the record's kind and v still 0. The top
--- bit of the first byte is the request's own kind; an initiator is below 64, so that it is its byte
-unfoldable pub wordOf : ℕ → Request → ℕ
-wordOf i r =
+-- a request of an owner as one word: the eight bytes of its records, the first the lowest. The top bit of the first byte, where a record
+-- has its kind, is the request's own kind; the fourth byte, where a record has v, is the least span that the request fits; an initiator is
+-- below 64, so that it is its byte
+unfoldable pub wordOf : Owner → Request → ℕ
+wordOf o r =
     r .kind * 128
-    + i % 256 * 256
+    + o .initiator % 256 * 256
     + r .target * 65_536
+    + leastSpan (o .plan) (o .initiator) (r .target) (r .length) * 16_777_216
     + swapped (r .number) * 4_294_967_296
     + swapped (r .length) * 281_474_976_710_656
 
 -- what a word tells of its request
 unfoldable pub targetIn : ℕ → ℕ
 targetIn w = w / 65_536 % 64
+
+unfoldable pub needIn : ℕ → ℕ
+needIn w = w / 16_777_216 % 256
 
 unfoldable pub numberIn : ℕ → ℕ
 numberIn w = swapped (w / 4_294_967_296 % 65_536)
@@ -41,21 +46,17 @@ lengthIn w = swapped (w / 281_474_976_710_656 % 65_536)
 
 -- the live transaction as two words: its request, and (span − age) × 256 + span: how many time-codes are left to it, at least one, and
 -- its span; 0 and 0 for none
-unfoldable pub liveWord : ℕ → Option Live → ℕ
-liveWord i none = 0
-liveWord i (some l) = wordOf i (l .request)
+unfoldable pub liveWord : Owner → Option Live → ℕ
+liveWord o none = 0
+liveWord o (some l) = wordOf o (l .request)
 
 unfoldable pub liveTime : Option Live → ℕ
 liveTime none = 0
 liveTime (some l) = (l .span - l .age) * 256 + l .span
 
--- the row of initiator i's side: next number, how many wait, eight places of the line, the live transaction
-unfoldable pub rowOf : ℕ → Side → List ℕ
-rowOf i s = s .next ∷ length (s .line) ∷ padded 8 0 (map (wordOf i) (s .line)) ++ (liveWord i (s .live) ∷ liveTime (s .live) ∷ [])
-
--- the initiator of row r, 0 where the plan has no such initiator
-unfoldable pub initiatorOf : Plan → ℕ → ℕ
-initiatorOf p r = ofRow p r (λ (i : ℕ). i)
+-- the row of an owner's side: next number, how many wait, eight places of the line, the live transaction
+unfoldable pub rowOf : Owner → Side → List ℕ
+rowOf o s = s .next ∷ length (s .line) ∷ padded 8 0 (map (wordOf o) (s .line)) ++ (liveWord o (s .live) ∷ liveTime (s .live) ∷ [])
 
 -- the side of row r, idle where the plan has no such initiator
 unfoldable pub sideOf : Plan → (ℕ → Side) → ℕ → Side
@@ -65,12 +66,12 @@ sideOf p side r = elim (atPlace r (initiators p)) [ none ↦ idle | some i ↦ s
 unfoldable pub changed : ℕ → Side → (ℕ → Side) → ℕ → Side
 changed row x s r = cond (eqb r row) x (s r)
 
--- eight rows with these initiators and sides
-unfoldable pub rowsWith : (ℕ → ℕ) → (ℕ → Side) → List ℕ
+-- eight rows with these owners and sides
+unfoldable pub rowsWith : (ℕ → Owner) → (ℕ → Side) → List ℕ
 rowsWith n s = flatMap (λ (r : ℕ). rowOf (n r) (s r)) (upFrom 8 0)
 
 unfoldable pub runOf : Plan → (ℕ → Side) → List ℕ
-runOf p side = rowsWith (initiatorOf p) (sideOf p side)
+runOf p side = rowsWith (ownerOf p) (sideOf p side)
 
 -- the last accepted time-code: 0 for none, else its byte and 1
 unfoldable pub lastOf : Option ℕ → ℕ

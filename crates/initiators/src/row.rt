@@ -1,9 +1,9 @@
 // One initiator's row of run memory, twelve words: its next number, how many wait, eight places of the line, its live transaction.
 // Each contract holds for every side that the row is of.
 ghost use mathlib.Core.Path.{_≡_};
-ghost use Prim.Native.Nat.{ℕ};
-ghost use lib.ListN.{length};
+ghost use lib.ListN.{length, getD};
 ghost use Rattle.lists.specs.Search.{isSome};
+ghost use Rattle.plan_view.specs.View.{Owner};
 ghost use Rattle.box_rules.specs.State.{Side};
 ghost use Rattle.box_rules.specs.Turn.{finish};
 ghost use Rattle.box_rules.specs.laws.Fit.{FitSide};
@@ -15,14 +15,14 @@ use crate::word::target_in;
 
 pub fn waiting(row: &[u64]) -> u64
     requires { ⌜ IsRow (now row) ⌝ }
-    ensures { λ r. ⌜ ((i : ℕ) (s : Side) → FitSide s → now (row .entry) ≡ rowOf i s → r ≡ length (s .line)) ⌝ }
+    ensures { λ r. ⌜ (r ≡ getD (now (row .entry)) 1 0) × ((o : Owner) (s : Side) → FitSide s → now (row .entry) ≡ rowOf o s → r ≡ length (s .line)) ⌝ }
 {
     row[1]
 }
 
 pub fn has_live(row: &[u64]) -> bool
     requires { ⌜ IsRow (now row) ⌝ }
-    ensures { λ r. ⌜ ((i : ℕ) (s : Side) → FitSide s → now (row .entry) ≡ rowOf i s → r ≡ isSome (s .live)) ⌝ }
+    ensures { λ r. ⌜ ((o : Owner) (s : Side) → FitSide s → now (row .entry) ≡ rowOf o s → r ≡ isSome (s .live)) ⌝ }
 {
     row[11] != 0
 }
@@ -30,28 +30,28 @@ pub fn has_live(row: &[u64]) -> bool
 // The request of the live transaction as its word, 0 where there is none.
 pub fn live_word(row: &[u64]) -> u64
     requires { ⌜ IsRow (now row) ⌝ }
-    ensures { λ r. ⌜ ((i : ℕ) (s : Side) → FitSide s → now (row .entry) ≡ rowOf i s → r ≡ liveWord i (s .live)) ⌝ }
+    ensures { λ r. ⌜ ((o : Owner) (s : Side) → FitSide s → now (row .entry) ≡ rowOf o s → r ≡ liveWord o (s .live)) ⌝ }
 {
     row[10]
 }
 
 pub fn live_number(row: &[u64]) -> u16
     requires { ⌜ IsRow (now row) ⌝ }
-    ensures { λ r. ⌜ ((i : ℕ) (s : Side) → FitSide s → now (row .entry) ≡ rowOf i s → r ≡ (liveRequest (s .live)) .number) ⌝ }
+    ensures { λ r. ⌜ ((o : Owner) (s : Side) → FitSide s → now (row .entry) ≡ rowOf o s → r ≡ (liveRequest (s .live)) .number) ⌝ }
 {
     number_in(row[10])
 }
 
 pub fn live_target(row: &[u64]) -> u8
     requires { ⌜ IsRow (now row) ⌝ }
-    ensures { λ r. ⌜ ((i : ℕ) (s : Side) → FitSide s → now (row .entry) ≡ rowOf i s → r ≡ (liveRequest (s .live)) .target) ⌝ }
+    ensures { λ r. ⌜ ((o : Owner) (s : Side) → FitSide s → now (row .entry) ≡ rowOf o s → r ≡ (liveRequest (s .live)) .target) ⌝ }
 {
     target_in(row[10])
 }
 
 pub fn live_length(row: &[u64]) -> u16
     requires { ⌜ IsRow (now row) ⌝ }
-    ensures { λ r. ⌜ ((i : ℕ) (s : Side) → FitSide s → now (row .entry) ≡ rowOf i s → r ≡ (liveRequest (s .live)) .length) ⌝ }
+    ensures { λ r. ⌜ ((o : Owner) (s : Side) → FitSide s → now (row .entry) ≡ rowOf o s → r ≡ (liveRequest (s .live)) .length) ⌝ }
 {
     length_in(row[10])
 }
@@ -59,7 +59,7 @@ pub fn live_length(row: &[u64]) -> u16
 // "Ends the live transaction"
 pub fn finish_row(row: &mut [u64])
     requires { ⌜ IsRow (now row) ⌝ }
-    ensures { λ r. ⌜ ((i : ℕ) (s : Side) → FitSide s → now (row .entry) ≡ rowOf i s → now (row .exit) ≡ rowOf i (finish s)) ⌝ }
+    ensures { λ r. ⌜ ((o : Owner) (s : Side) → FitSide s → now (row .entry) ≡ rowOf o s → now (row .exit) ≡ rowOf o (finish s)) ⌝ }
 {
     row[10] = 0;
     row[11] = 0;

@@ -8,37 +8,38 @@ use Rattle.lists.specs.Search.{only}
 use Rattle.lists.specs.Puts.{Puts}
 use Rattle.lists.specs.laws.Bools.{not-both}
 use Rattle.lists.specs.laws.Puts.{puts-none}
+use Rattle.plan_view.specs.View.{Owner}
 use Rattle.box_rules.specs.State.{Request, Live}
 use Rattle.box_rules.specs.Turn.{isLate}
 use Rattle.box_rules.specs.Records.{recordBytes, full, lateRecord}
 use Rattle.box_rules.specs.laws.Fit.{FitRequest, FitLive}
 use Rattle.initiators.specs.Run.{wordOf}
-use Rattle.turns.specs.Turns.{lateOf}
-use Rattle.turns.specs.declared.Late.{Late}
+use Rattle.turns.specs.Turns.{nobody, the, lateOf}
+use Rattle.turns.specs.declared.Turned.{Turned}
 use Rattle.records.specs.laws.One.{puts-one}
 
-late? : Late → Bool
-late? r = r .late
+one? : Turned → Bool
+one? r = r .one
 
-module _ (clock i v : ℕ) (q : Bool) (r : Late) where
+module _ (clock : ℕ) (n : Owner) (v : ℕ) (q : Bool) (r : Turned) where
   -- what is live is late
-  pub late-puts : (o : Option Live) → ((l : Live) → o ≡ some l → FitLive l) → r ≡ lateOf q i o → r .late ≡ true → (before after : List ℕ) (j k : ℕ)
-      → ((x : Request) → FitRequest x → r .word ≡ wordOf i x → Puts before j (recordBytes clock (full 4 i v x)) after k) → Puts before j (flatMap (recordBytes clock) (lateRecord q i v o)) after k
-  unfolding lateRecord lateOf only late?
-  late-puts none f is h before after j k p = not-both h (ap late? is)
+  pub late-puts : (o : Option Live) → ((l : Live) → o ≡ some l → FitLive l) → r ≡ lateOf q n o → r .one ≡ true → (before after : List ℕ) (j k : ℕ)
+      → ((x : Request) → FitRequest x → r .word ≡ wordOf n x → Puts before j (recordBytes clock (full 4 (n .initiator) v x)) after k) → Puts before j (flatMap (recordBytes clock) (lateRecord q (n .initiator) v o)) after k
+  unfolding lateRecord lateOf only one?
+  late-puts none f is h before after j k p = not-both h (ap one? is)
   late-puts (some l) f is h before after j k p = go (isLate q l) is
     where
-      go : (b : Bool) → r ≡ cond b (record { late = true; word = wordOf i (l .request) }) (record { late = false; word = 0 })
-          → Puts before j (flatMap (recordBytes clock) (only b (full 4 i v (l .request)))) after k
-      go true is = puts-one clock (full 4 i v (l .request)) (p (l .request) (f l refl .request) (ap (λ (y : Late). y .word) is))
-      go false is = not-both h (ap late? is)
+      go : (b : Bool) → r ≡ cond b (the n (l .request)) nobody
+          → Puts before j (flatMap (recordBytes clock) (only b (full 4 (n .initiator) v (l .request)))) after k
+      go true is = puts-one clock (full 4 (n .initiator) v (l .request)) (p (l .request) (f l refl .request) (ap (λ (y : Turned). y .word) is))
+      go false is = not-both h (ap one? is)
 
-  pub late-not : (o : Option Live) → r ≡ lateOf q i o → r .late ≡ false → (before : List ℕ) (j : ℕ) → Puts before j (flatMap (recordBytes clock) (lateRecord q i v o)) before j
-  unfolding lateRecord lateOf only flatMap late?
+  pub late-not : (o : Option Live) → r ≡ lateOf q n o → r .one ≡ false → (before : List ℕ) (j : ℕ) → Puts before j (flatMap (recordBytes clock) (lateRecord q (n .initiator) v o)) before j
+  unfolding lateRecord lateOf only flatMap one?
   late-not none is h before j = puts-none before j
   late-not (some l) is h before j = go (isLate q l) is
     where
-      go : (b : Bool) → r ≡ cond b (record { late = true; word = wordOf i (l .request) }) (record { late = false; word = 0 })
-          → Puts before j (flatMap (recordBytes clock) (only b (full 4 i v (l .request)))) before j
-      go true is = not-both (ap late? is) h
+      go : (b : Bool) → r ≡ cond b (the n (l .request)) nobody
+          → Puts before j (flatMap (recordBytes clock) (only b (full 4 (n .initiator) v (l .request)))) before j
+      go true is = not-both (ap one? is) h
       go false is = puts-none before j

@@ -7,7 +7,7 @@ use borrow.Author.Tests.{ltb-true, lt-ltb, leb-true, le-leb}
 use Rattle.lists.specs.Search.{isIn}
 use Rattle.lists.specs.laws.Bools.{both-true, true-both}
 use Rattle.lists.specs.laws.Search.{isIn-elim, isIn-intro}
-use Rattle.plan_rules.specs.Meaning.{covers, fits, permits}
+use Rattle.plan_rules.specs.Meaning.{covers, fitsIn, fits, permits}
 use Rattle.plan_rules.specs.laws.Uses.{on-path}
 use Rattle.plan_rules.specs.Promises.{CoversAsWorded, UsesAsWorded, PermitsAsWorded}
 
@@ -29,7 +29,7 @@ unfolding UsesAsWorded
 uses-as-worded = on-path
 
 pub permits-as-worded : PermitsAsWorded
-unfolding PermitsAsWorded permits fits
+unfolding PermitsAsWorded permits fits fitsIn
 permits-as-worded p e t n = (
   λ h.
       let a = both-true (isIn t (e .targets)) (leb n (256 * e .span)) h in

@@ -6,6 +6,7 @@ use mathlib.Core.Option.{Option, none, some}
 use mathlib.Core.Bool.{Bool, false, not, _&&_, _||_, cond}
 use lib.Dec.{ltb, leb, eqb}
 use Rattle.lists.specs.Search.{any, keep, find, isIn, below64}
+use Rattle.lists.specs.Numbers.{firstFrom}
 use Rattle.plan_rules.specs.Plan.{Device, Link, Route, Entry, Plan}
 
 unfoldable pub isDevice : Plan → ℕ → Bool
@@ -66,9 +67,16 @@ uses p i t l = any (λ (x : Route). leadsFrom i t x && isIn l (x .links)) (p .pa
 unfoldable pub covers : Entry → ℕ → Bool
 covers e s = ltb ((s + 64 - e .slot) % 64) (e .span)
 
--- "with 256 × span at least the length": a transaction of n data bytes to target t is within the time of entry e
+-- "with 256 × span at least the length": a transaction of initiator i with n data bytes to target t is within the time of k slots
+unfoldable pub fitsIn : Plan → ℕ → ℕ → ℕ → ℕ → Bool
+fitsIn p i t n k = leb n (256 * k)
+
 unfoldable pub fits : Plan → Entry → ℕ → ℕ → Bool
-fits p e t n = leb n (256 * e .span)
+fits p e t n = fitsIn p (e .initiator) t n (e .span)
+
+-- the least span that it fits, 17 where it fits none: a longer span never permits less (laws/Spans)
+unfoldable pub leastSpan : Plan → ℕ → ℕ → ℕ → ℕ
+leastSpan p i t n = firstFrom 16 1 (fitsIn p i t n)
 
 unfoldable pub permits : Plan → Entry → ℕ → ℕ → Bool
 permits p e t n = isIn t (e .targets) && fits p e t n

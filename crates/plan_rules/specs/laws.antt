@@ -25,6 +25,7 @@ pub mod Entries
 pub mod Size
 pub mod Copies
 pub mod GoodSound
+pub mod Spans
 pub mod Runs
 pub mod Same
 pub mod SameVerdict

@@ -1,6 +1,6 @@
 -- What the running box reads of a plan: whether there is one, the rows of its initiators, its entries.
 use mathlib.Core.Path.{_≡_}
-use Prim.Native.Nat.{ℕ, _<_}
+use Prim.Native.Nat.{ℕ, _≤_, _<_}
 use mathlib.Core.List.{List}
 use mathlib.Core.Option.{Option, none, some, Option·getD}
 use lib.Dec.{eqb}
@@ -10,7 +10,7 @@ use Rattle.sets.specs.Set.{member}
 use Rattle.plan_rules.specs.Plan.{Entry, Plan, blank}
 use Rattle.plan_rules.specs.Meaning.{initiators}
 use Rattle.plan_rules.specs.laws.Sound.{Sound}
-use Rattle.plan_memory.specs.Memory.{rowsOf, spansOf, aimsOf, greatestOf, numbersOf}
+use Rattle.plan_memory.specs.Memory.{rowsOf, ofRow, spansOf, aimsOf, greatestOf, numbersOf}
 
 -- the plan, blank where there is none
 abbrev pub planIn : Option Plan → Plan
@@ -38,7 +38,19 @@ placeOr d (some f) = f .place
 unfoldable pub rowFor : Plan → ℕ → ℕ
 rowFor p i = placeOr 8 (first (eqb i) (initiators p))
 
--- a set of targets and a span tell what an entry permits
-pub record Tells (targets′ span′ : ℕ) (e : Entry) : Type 0 where
+-- an initiator of a plan, whose row it is
+pub record Owner : Type 0 where
+  pub plan : Plan
+  pub initiator : ℕ
+
+-- the owner of row r, initiator 0 where the plan has no such row
+unfoldable pub ownerOf : Plan → ℕ → Owner
+ownerOf p r = record { plan = p; initiator = ofRow p r (λ (i : ℕ). i) }
+
+-- a set of targets and a span tell what an entry of the owner permits
+pub record Tells (o : Owner) (targets′ span′ : ℕ) (e : Entry) : Type 0 where
+  pub own : e .initiator ≡ o .initiator
   pub targets : (t : ℕ) → isIn t (e .targets) ≡ member t targets′
   pub span : e .span ≡ span′
+  pub some-span : 1 ≤ span′
+  pub short-span : span′ ≤ 16

@@ -1,12 +1,13 @@
 // The entry that stands at a slot, and what it permits.
 ghost use mathlib.Core.Path.{_≡_};
 ghost use Prim.Native.Nat.{ℕ};
-ghost use Rattle.plan_rules.specs.Plan.{Plan, Entry};
-ghost use Rattle.plan_rules.specs.Meaning as meaning;
-ghost use Rattle.plan_rules.specs.Meaning.{entryAt};
+ghost use mathlib.Core.Bool.{_&&_};
+ghost use lib.Dec.{leb};
+ghost use Rattle.sets.specs.Set.{member};
+ghost use Rattle.plan_rules.specs.Plan.{Plan};
+ghost use Rattle.plan_rules.specs.Meaning.{entryAt, leastSpan};
 ghost use Rattle.plan_rules.specs.laws.Sound.{Sound};
 ghost use Rattle.plan_memory.specs.Memory.{ofRow, spanOf, spansOf, aimOf, aimsOf};
-ghost use Rattle.plan_view.specs.View.{Tells};
 
 // The span of the entry of a row at a slot, 0 where none stands there.
 pub fn span_at(spans: &[u8; 512], row: usize, slot: u8) -> u8
@@ -34,12 +35,25 @@ pub fn targets_at(aims: &[u64; 512], row: usize, slot: u8) -> u64
     aims[row * 64 + slot as usize]
 }
 
-// Whether an entry with these targets and this span permits a transaction: "with 256 × span at least the length".
-pub fn permits(targets: u64, span: u8, target: u8, length: u16) -> bool
-    ensures { λ r. ⌜ ((p : Plan) (e : Entry) → Tells targets span e → r ≡ meaning.permits p e target length) ⌝ }
+// The least span that a transaction with this many data bytes fits, 17 where it fits none: "with 256 × span at least the length".
+pub fn least_span(length: u16) -> u8
+    ensures { λ r. ⌜ ((p : Plan) (i t : ℕ) → r ≡ leastSpan p i t length) ⌝ }
+{
+    if 4096 < length {
+        return 17;
+    }
+    if length == 0 {
+        return 1;
+    }
+    ((length - 1) / 256 + 1) as u8
+}
+
+// Whether an entry with these targets and this span permits a transaction to the target that needs so long a span.
+pub fn permits(targets: u64, span: u8, target: u8, need: u8) -> bool
+    ensures { λ r. ⌜ r ≡ (member target targets && leb need span) ⌝ }
 {
     if sets::has(targets, target) {
-        return length <= 256 * span as u16;
+        return need <= span;
     }
     false
 }

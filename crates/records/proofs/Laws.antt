@@ -11,12 +11,13 @@ use Rattle.lists.specs.Stores.{Put}
 use Rattle.lists.specs.Puts.{Puts}
 use Rattle.lists.specs.laws.Puts.{puts-none}
 use Rattle.box_rules.specs.declared.Watchdog.{Watchdog}
+use Rattle.plan_view.specs.View.{Owner}
 use Rattle.box_rules.specs.State.{Request}
 use Rattle.box_rules.specs.Watch.{isEarly, isOverdue}
 use Rattle.box_rules.specs.Records.{recordBytes, plain, full, watchdogRecord, sequenceRecord}
 use Rattle.box_rules.specs.laws.Fit.{FitRequest}
-use Rattle.initiators.specs.Run.{swapped, wordOf}
-use Rattle.initiators.specs.laws.Words.{apart}
+use Rattle.initiators.specs.Run.{swapped, wordOf, needIn}
+use Rattle.initiators.specs.laws.Words.{apart, need-in}
 use Rattle.records.specs.Bytes.{bytesOf}
 use Rattle.records.specs.laws.One.{puts-one}
 
@@ -71,19 +72,22 @@ node n h = omega arith
 short : (n : ℕ) → n ≤ 4096 → n < 65_536
 short n h = omega arith
 
--- the word without the request's own kind
-bare : (i : ℕ) (x : Request) → i < 256 → FitRequest x
-    → wordOf i x - wordOf i x / 128 % 2 * 128 ≡ i * 256 + x .target * 65_536 + swapped (x .number) * 4_294_967_296 + swapped (x .length) * 281_474_976_710_656
-unfolding wordOf
-bare i x i< f = rw (apart i x f .kind) (omega (arith, i<))
+-- the word without the request's own kind and its least span
+bare : (o : Owner) (x : Request) → o .initiator < 256 → FitRequest x
+    → wordOf o x - wordOf o x / 128 % 2 * 128 - wordOf o x / 16_777_216 % 256 * 16_777_216
+    ≡ o .initiator * 256 + x .target * 65_536 + swapped (x .number) * 4_294_967_296 + swapped (x .length) * 281_474_976_710_656
+unfolding needIn wordOf
+bare o x i< f = rw ((apart o x f) .kind, need-in o x f) (omega (arith, i<))
 
 -- the bytes of a request's record, told from its word
-pub full-puts : {l o : List ℕ} {j k : ℕ} (clock kind i v w s : ℕ) (x : Request) → i < 256 → FitRequest x → w ≡ wordOf i x → kind < 256 → v < 256
-    → s ≡ ((w - w / 128 % 2 * 128) + (kind + v * 16_777_216)) % 2 ^ 64 → Put l j (bytesOf s) o k → Puts l j (recordBytes clock (full kind i v x)) o k
+pub full-puts : {l o : List ℕ} {j k : ℕ} (clock kind : ℕ) (n : Owner) (v w s : ℕ) (x : Request) → n .initiator < 256 → FitRequest x → w ≡ wordOf n x → kind < 256 → v < 256
+    → s ≡ ((w - w / 128 % 2 * 128 - w / 16_777_216 % 256 * 16_777_216) + (kind + v * 16_777_216)) % 2 ^ 64 → Put l j (bytesOf s) o k
+    → Puts l j (recordBytes clock (full kind (n .initiator) v x)) o k
 unfolding recordBytes full swapped
-full-puts clock kind i v w s x i< f is k< v< es p =
+full-puts clock kind n v w s x i< f is k< v< es p =
+    let i = n .initiator in
     let l< = short (x .length) (f .length) in
-    let e = ap (λ (y : ℕ). y - y / 128 % 2 * 128) is ∙ bare i x i< f in
+    let e = ap (λ (y : ℕ). y - y / 128 % 2 * 128 - y / 16_777_216 % 256 * 16_777_216) is ∙ bare n x i< f in
     let b =
     bytes-of-wrapped kind i (x .target) v (x .number / 256) (x .number % 256) (x .length / 256) (x .length % 256) k< i< (node (x .target) (f .target)) v<
     (high-byte (x .number) (f .number)) (low-byte (x .number)) (high-byte (x .length) l<) (low-byte (x .length)) s (es ∙ ap (λ (y : ℕ). (y + (kind + v * 16_777_216)) % 2 ^ 64) e)

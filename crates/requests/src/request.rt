@@ -6,16 +6,18 @@ ghost use Rattle.box_rules.specs.declared.Event.the-variants.{Request};
 ghost use Rattle.box_rules.specs.declared.Watchdog.{Watchdog};
 ghost use Rattle.box_rules.specs.State.{Box};
 ghost use Rattle.box_rules.specs.Step as rules;
+ghost use Rattle.initiators.specs.Row.{IsRun};
 ghost use Rattle.initiators.specs.Memory.{Finds, Answers};
 ghost use Rattle.requests.specs.NotPermitted.{notPermitted};
 use crate::no_row::no_row;
-use asking::ask;
+use asking::ask_row;
 use asking::may_start;
 use box_rules::Answer;
+use plan_view::entry::least_span;
 use plan_view::row::row_of;
 
-// 24 "length over 4,096", 25 "no entry of this initiator permits the target with 256 × span at least the length". What an entry permits is
-// never longer: only where none does is 24 told from 25.
+// 24 "length over 4,096", 25 "no entry of this initiator permits the target …". What an entry permits is never longer: only where none does
+// is 24 told from 25.
 fn not_permitted(length: u16) -> Answer
     ensures { λ r. ⌜ r ≡ notPermitted length ⌝ }
 {
@@ -30,12 +32,13 @@ pub fn request(
     spans: &[u8; 512],
     aims: &[u64; 512],
     numbers: &[u32; 6],
-    run: &mut [u64; 96],
+    run: &mut [u64],
     initiator: u8,
     target: u8,
     kind: u8,
     length: u16,
 ) -> Answer
+    requires { ⌜ IsRun (now run) ⌝ }
     ensures { λ r. ⌜ ((b : Box) (last : List ℕ) → Finds b (now (rows .entry)) (now (spans .entry)) (now (aims .entry)) (now (numbers .entry)) (now (run .entry)) last →
         (room : ℕ) (w : Watchdog) → Answers (rules.step room b w (Request initiator target kind length)) r (now (run .exit)) last) ⌝ }
 {
@@ -46,8 +49,16 @@ pub fn request(
     if 1 < kind {
         return Answer::Refused { number: 23 };
     }
-    if !may_start(spans, aims, row, target, length) {
+    let need = least_span(length);
+    if !may_start(spans, aims, row, target, need) {
         return not_permitted(length);
     }
-    ask(run, row, initiator, target, kind, length)
+    ask_row(
+        &mut run[row * 12..row * 12 + 12],
+        initiator,
+        target,
+        kind,
+        need,
+        length,
+    )
 }

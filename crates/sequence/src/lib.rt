@@ -1,11 +1,11 @@
 // Whether a time-code is taken, and whether it is in sequence.
 ghost use mathlib.Core.Path.{_≡_};
 ghost use mathlib.Core.Option.{Option};
-ghost use Prim.Native.Nat.{ℕ, _≤_};
+ghost use Prim.Native.Nat.{ℕ, _*_, _≤_, _<_};
 ghost use Rattle.box_rules.specs.declared.Event.the-variants.{TimeCode};
 ghost use Rattle.plan_view.specs.View.{Timed};
 ghost use Rattle.box_rules.specs.State.{Box};
-ghost use Rattle.box_rules.specs.Refuse.{refusal};
+ghost use Rattle.box_rules.specs.Refuse.{recordSize, mostRecords, refusal};
 ghost use Rattle.box_rules.specs.Turn.{inSequence};
 ghost use Rattle.initiators.specs.Run.{lastOf};
 use plan_view::interval::is_loaded;
@@ -22,7 +22,7 @@ pub fn in_sequence(last: u8, byte: u8) -> bool
 
 // Refusals 20, 21 and 29 of a time-code, 0 for none.
 pub fn refuse(numbers: &[u32; 6], byte: u8, room: usize) -> u8
-    ensures { λ r. ⌜ ((b : Box) → Timed (b .plan) (now (numbers .entry)) → (clock : ℕ) → r ≡ refusal room b (TimeCode byte clock)) × (r ≡ 0 → 136 ≤ room) ⌝ }
+    ensures { λ r. ⌜ ((b : Box) → Timed (b .plan) (now (numbers .entry)) → (clock : ℕ) → r ≡ refusal room b (TimeCode byte clock)) × (r ≡ 0 → (mostRecords * recordSize ≤ room) × (byte < 255)) ⌝ }
 {
     if !is_loaded(numbers) {
         return 20;

@@ -1,11 +1,12 @@
 // A time-code: the sequence rule, then the records in order, then the five numbers.
 ghost use mathlib.Core.Path.{_≡_};
 ghost use mathlib.Core.List.{List, [], _∷_, flatMap};
-ghost use Prim.Native.Nat.{ℕ, _≤_};
+ghost use Prim.Native.Nat.{ℕ, _*_, _≤_};
 ghost use lib.ListN.{length};
 ghost use Rattle.box_rules.specs.declared.Event.the-variants.{TimeCode};
 ghost use Rattle.lists.specs.Puts.{Puts};
 ghost use Rattle.box_rules.specs.State.{Box, thePlan};
+ghost use Rattle.box_rules.specs.Refuse.{recordSize, mostRecords};
 ghost use Rattle.box_rules.specs.Records as rules-records;
 ghost use Rattle.box_rules.specs.Records.{recordBytes};
 ghost use Rattle.box_rules.specs.Step as rules;
@@ -35,7 +36,7 @@ fn run_on(
     clock: u32,
     records: &mut [u8],
 ) -> usize
-    requires { ⌜ 136 ≤ length (now records) ⌝ }
+    requires { ⌜ mostRecords * recordSize ≤ length (now records) ⌝ }
     ensures { λ r. ⌜ ((b : Box) (rows numbers : List ℕ) → Finds b rows (now (spans .entry)) (now (aims .entry)) numbers (now (run .entry)) (last ∷ []) →
         (now (run .exit) ≡ runOf (thePlan b) (ticked b byte .side))
         × Puts (now (records .entry)) 0 (flatMap (recordBytes clock) (rules-records.records b w byte clock)) (now (records .exit)) r) ⌝ }
@@ -43,10 +44,10 @@ fn run_on(
     let v = byte % 64;
     let q = in_sequence(last, byte);
     let watched = put_watchdog(records, 0, w, clock, v);
-    let sequenced = put_sequence(records, watched, q, v);
-    let late = report_late(run, records, sequenced, v, q);
+    let sequenced = put_sequence(records, watched, q, v, clock);
+    let late = report_late(run, records, sequenced, v, clock, q);
     if q {
-        return visit_all(spans, aims, run, records, late, v);
+        return visit_all(spans, aims, run, records, late, v, clock);
     }
     late
 }
@@ -73,7 +74,7 @@ pub fn time_code(
         };
     }
     let end = run_on(spans, aims, run, last[0], w, byte, clock, records);
-    last[0] = byte % 64 + 1;
+    last[0] = byte + 1;
     Stepped {
         answer: Answer::Recorded {
             count: (end / 8 % 256) as u8,

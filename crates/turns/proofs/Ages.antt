@@ -11,18 +11,19 @@ use Rattle.lists.specs.laws.Bools.{is-some, not-some}
 use Rattle.box_rules.specs.State.{Live, Side}
 use Rattle.box_rules.specs.Turn.{finish, isLate, older, survives, aged}
 use Rattle.box_rules.specs.laws.Fit.{FitSide, FitLive}
+use Rattle.plan_view.specs.View.{Owner}
 use Rattle.initiators.specs.Run.{wordOf, liveWord, liveTime, rowOf}
-use Rattle.turns.specs.Turns.{lateOf}
+use Rattle.turns.specs.Turns.{nobody, lateOf}
 use Rattle.initiators.specs.laws.Words.{eight}
 use Rattle.initiators.specs.laws.RowWords.{time-stored, live-word-at, live-time-at, live-is}
 use Rattle.turns.proofs.Words.{late-told, young-told, older-time}
 
-module _ (m : ℕ) (s : Side) (f : FitSide s) (row : List ℕ) (is : row ≡ rowOf m s) where
+module _ (m : Owner) (s : Side) (f : FitSide s) (row : List ℕ) (is : row ≡ rowOf m s) where
   -- lateness: nothing is live, what is live ends, it is one time-code older
   live-one : (getD row 11 0 ≡ 0 → ⊥) → (l : Live) × (s .live ≡ some l)
   live-one n = is-some (s .live) (sym (live-is m s f row is) ∙ rw (ne-eqb (getD row 11 0) 0 n))
 
-  pub ages-none : (q : Bool) → getD row 11 0 ≡ 0 → (record { late = false; word = 0 } ≡ lateOf q m (s .live)) × (row ≡ rowOf m (aged q s))
+  pub ages-none : (q : Bool) → getD row 11 0 ≡ 0 → (nobody ≡ lateOf q m (s .live)) × (row ≡ rowOf m (aged q s))
   unfolding lateOf rowOf aged survives
   ages-none q h =
       let e = not-some (s .live) (sym (live-is m s f row is) ∙ rw (eq-eqb (getD row 11 0) 0 h)) in
@@ -32,7 +33,7 @@ module _ (m : ℕ) (s : Side) (f : FitSide s) (row : List ℕ) (is : row ≡ row
     at-one : (l : Live) → s .live ≡ some l → getD row 11 0 ≡ liveTime (some l)
     at-one l e = live-time-at m s f row is ∙ ap liveTime e
 
-    pub ages-late : b ≡ true → (x : List ℕ) → x ≡ rowOf m (finish s) → (record { late = true; word = getD row 10 0 } ≡ lateOf q m (s .live)) × (x ≡ rowOf m (aged q s))
+    pub ages-late : b ≡ true → (x : List ℕ) → x ≡ rowOf m (finish s) → (record { one = true; word = getD row 10 0 } ≡ lateOf q m (s .live)) × (x ≡ rowOf m (aged q s))
     unfolding rowOf aged finish liveWord
     ages-late h x ex =
         let (l, e) = live-one n in
@@ -40,7 +41,7 @@ module _ (m : ℕ) (s : Side) (f : FitSide s) (row : List ℕ) (is : row ≡ row
         let w : getD row 10 0 ≡ wordOf m (l .request) = live-word-at m s f row is ∙ ap (liveWord m) e in
         (rw (w, a), ex ∙ rw v)
 
-    pub ages-young : b ≡ false → (i : ℕ) → i ≡ getD row 11 0 - 256 → (record { late = false; word = 0 } ≡ lateOf q m (s .live)) × (set row 11 i ≡ rowOf m (aged q s))
+    pub ages-young : b ≡ false → (i : ℕ) → i ≡ getD row 11 0 - 256 → (nobody ≡ lateOf q m (s .live)) × (set row 11 i ≡ rowOf m (aged q s))
     unfolding rowOf aged older liveWord
     ages-young h i ei =
         let (l, e) = live-one n in

@@ -9,8 +9,9 @@ use borrow.Author.Tests.{leb-true, leb-false, lt-ltb, le-ltb}
 use Rattle.box_rules.specs.State.{Live}
 use Rattle.box_rules.specs.Turn.{isLate, older, survives}
 use Rattle.box_rules.specs.laws.Fit.{FitLive}
-use Rattle.initiators.specs.Run.{wordOf, liveTime}
-use Rattle.turns.specs.Turns.{lateOf}
+use Rattle.plan_view.specs.View.{Owner}
+use Rattle.initiators.specs.Run.{liveTime}
+use Rattle.turns.specs.Turns.{nobody, the, lateOf}
 
 -- lateness, told from the time
 module _ (l : Live) (f : FitLive l) (q : Bool) (time : ℕ) (is : time ≡ liveTime (some l)) where
@@ -32,11 +33,11 @@ module _ (l : Live) (f : FitLive l) (q : Bool) (time : ℕ) (is : time ≡ liveT
   older-time i e = omega (arith, is, e, f .young)
 
 -- what is answered and what survives, by whether what is live is late
-module _ (q : Bool) (i : ℕ) (o : Option Live) (l : Live) (e : o ≡ some l) where
-  pub late-told : isLate q l ≡ true → (lateOf q i o ≡ record { late = true; word = wordOf i (l .request) }) × (survives q o ≡ none)
+module _ (q : Bool) (i : Owner) (o : Option Live) (l : Live) (e : o ≡ some l) where
+  pub late-told : isLate q l ≡ true → (lateOf q i o ≡ the i (l .request)) × (survives q o ≡ none)
   unfolding lateOf survives
   late-told h = (rw (e, h), rw (e, h))
 
-  pub young-told : isLate q l ≡ false → (lateOf q i o ≡ record { late = false; word = 0 }) × (survives q o ≡ some (older l))
+  pub young-told : isLate q l ≡ false → (lateOf q i o ≡ nobody) × (survives q o ≡ some (older l))
   unfolding lateOf survives
   young-told h = (rw (e, h), rw (e, h))

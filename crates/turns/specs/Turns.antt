@@ -4,21 +4,28 @@ use Prim.Native.Nat.{ℕ}
 use mathlib.Core.Option.{Option, none, some}
 use mathlib.Core.Bool.{Bool, true, false, cond}
 use Rattle.lists.specs.Place.{atPlace}
-use Rattle.box_rules.specs.State.{Live, Side}
+use Rattle.box_rules.specs.State.{Request, Live, Side}
 use Rattle.box_rules.specs.Turn.{Start, isLate}
+use Rattle.plan_view.specs.View.{Owner}
 use Rattle.initiators.specs.Run.{wordOf}
-use Rattle.turns.specs.declared.Late.{Late}
-use Rattle.turns.specs.declared.Started.{Started}
+use Rattle.turns.specs.declared.Turned.{Turned}
 
--- the live transaction of initiator i that is late, as its word
-unfoldable pub lateOf : Bool → ℕ → Option Live → Late
-lateOf q i none = record { late = false; word = 0 }
-lateOf q i (some l) = cond (isLate q l) (record { late = true; word = wordOf i (l .request) }) (record { late = false; word = 0 })
+-- no transaction, and one, as its word
+abbrev pub nobody : Turned
+nobody = record { one = false; word = 0 }
 
--- the request of initiator i that starts, as its word
-unfoldable pub startedOf : ℕ → Option Start → Started
-startedOf i none = record { started = false; word = 0 }
-startedOf i (some x) = record { started = true; word = wordOf i (x .found .what) }
+abbrev pub the : Owner → Request → Turned
+the o r = record { one = true; word = wordOf o r }
+
+-- the owner's live transaction that is late
+unfoldable pub lateOf : Bool → Owner → Option Live → Turned
+lateOf q o none = nobody
+lateOf q o (some l) = cond (isLate q l) (the o (l .request)) nobody
+
+-- the owner's request that starts
+unfoldable pub startedOf : Owner → Option Start → Turned
+startedOf o none = nobody
+startedOf o (some x) = the o (x .found .what)
 
 -- a start of the request at place k, at an entry of this span
 pub record StartsAt (k span′ : ℕ) (s : Side) (x : Start) : Type 0 where

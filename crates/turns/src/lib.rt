@@ -3,13 +3,14 @@
 ghost use mathlib.Core.Path.{_≡_};
 ghost use mathlib.Core.Option.{some};
 ghost use mathlib.Core.Bool.{false};
-ghost use Prim.Native.Nat.{ℕ, _≤_, _<_};
+ghost use Prim.Native.Nat.{_≤_, _<_};
 ghost use lib.ListN.{getD};
-ghost use Rattle.plan_rules.specs.Plan.{Plan, Entry};
+ghost use Rattle.lists.specs.Search.{isSome};
+ghost use Rattle.plan_rules.specs.Plan.{Entry};
 ghost use Rattle.box_rules.specs.State.{Side, Live};
 ghost use Rattle.box_rules.specs.Turn.{Start, aged, isLate, starting, begun};
 ghost use Rattle.box_rules.specs.laws.Fit.{FitSide, FitLive};
-ghost use Rattle.plan_view.specs.View.{Tells};
+ghost use Rattle.plan_view.specs.View.{Owner, Tells};
 ghost use Rattle.initiators.specs.Run.{rowOf, liveTime};
 ghost use Rattle.initiators.specs.Row.{IsRow};
 ghost use Rattle.turns.specs.Turns.{lateOf, startedOf, StartsAt};
@@ -17,17 +18,10 @@ use in_line::find_row;
 use in_line::permits_oldest;
 use in_line::take_row;
 use initiators::row::finish_row;
-use initiators::row::has_live;
 
-// The transaction that is late, if any.
-pub struct Late {
-    pub late: bool,
-    pub word: u64,
-}
-
-// The request that starts, if any.
-pub struct Started {
-    pub started: bool,
+// A transaction that ends late or that starts, if there is one: its request as its word, else 0.
+pub struct Turned {
+    pub one: bool,
     pub word: u64,
 }
 
@@ -40,69 +34,63 @@ fn is_late(time: u64, in_sequence: bool) -> bool
 }
 
 // Lateness at a time-code: a late transaction ends, another is one time-code older.
-pub fn age_row(row: &mut [u64], in_sequence: bool) -> Late
+pub fn age_row(row: &mut [u64], in_sequence: bool) -> Turned
     requires { ⌜ IsRow (now row) ⌝ }
-    ensures { λ r. ⌜ ((i : ℕ) (s : Side) → FitSide s → now (row .entry) ≡ rowOf i s → (r ≡ lateOf «in_sequence» i (s .live)) × (now (row .exit) ≡ rowOf i (aged «in_sequence» s))) ⌝ }
+    ensures { λ r. ⌜ ((o : Owner) (s : Side) → FitSide s → now (row .entry) ≡ rowOf o s → (r ≡ lateOf «in_sequence» o (s .live)) × (now (row .exit) ≡ rowOf o (aged «in_sequence» s))) ⌝ }
 {
     let word = row[10];
     let time = row[11];
     if time == 0 {
-        return Late {
-            late: false,
+        return Turned {
+            one: false,
             word: 0,
         };
     }
     if is_late(time, in_sequence) {
         finish_row(row);
-        return Late {
-            late: true,
+        return Turned {
+            one: true,
             word: word,
         };
     }
     row[11] = time - 256;
-    Late {
-        late: false,
+    Turned {
+        one: false,
         word: 0,
     }
 }
 
 // The request at place k leaves the line and is live.
-fn begin_at(row: &mut [u64], k: usize, span: u8) -> Started
+fn begin_at(row: &mut [u64], k: usize, span: u8) -> Turned
     requires { ⌜ IsRow (now row) × (k < 8) × (k < getD (now row) 1 0) ⌝ }
-    ensures { λ r. ⌜ ((i : ℕ) (s : Side) → FitSide s → now (row .entry) ≡ rowOf i s → (x : Start) → StartsAt k span s x →
-        (r ≡ startedOf i (some x)) × (now (row .exit) ≡ rowOf i (begun s (some x)))) ⌝ }
+    ensures { λ r. ⌜ ((o : Owner) (s : Side) → FitSide s → now (row .entry) ≡ rowOf o s → (x : Start) → StartsAt k span s x →
+        (r ≡ startedOf o (some x)) × (now (row .exit) ≡ rowOf o (begun s (some x)))) ⌝ }
 {
     let word = row[k + 2];
     take_row(row, k);
     row[10] = word;
     // All of its span is left to it: span × 256, and the span.
     row[11] = 257 * span as u64;
-    Started {
-        started: true,
+    Turned {
+        one: true,
         word: word,
     }
 }
 
-// "the oldest waiting request it permits (target and 256 × span) starts"; "Were that initiator still live, … nothing starts."
-// Most often that is the oldest of all: tried by itself, it leaves the line with no test of its place.
-pub fn start_row(row: &mut [u64], targets: u64, span: u8) -> Started
+// "the oldest waiting request it permits (target and 256 × span) starts", where nothing is live. Most often that is the oldest of all: tried
+// by itself, it leaves the line with no test of its place.
+pub fn start_row(row: &mut [u64], targets: u64, span: u8) -> Turned
     requires { ⌜ IsRow (now row) ⌝ }
-    ensures { λ r. ⌜ ((i : ℕ) (s : Side) → FitSide s → now (row .entry) ≡ rowOf i s → (p : Plan) (e : Entry) → Tells targets span e →
-        (r ≡ startedOf i (starting p (some e) s)) × (now (row .exit) ≡ rowOf i (begun s (starting p (some e) s)))) ⌝ }
+    ensures { λ r. ⌜ ((o : Owner) (s : Side) → FitSide s → now (row .entry) ≡ rowOf o s → isSome (s .live) ≡ false → (e : Entry) → Tells o targets span e →
+        (r ≡ startedOf o (starting (o .plan) (some e) s)) × (now (row .exit) ≡ rowOf o (begun s (starting (o .plan) (some e) s)))) ⌝ }
 {
-    if has_live(row) {
-        return Started {
-            started: false,
-            word: 0,
-        };
-    }
     if permits_oldest(row, targets, span) {
         return begin_at(row, 0, span);
     }
     let k = find_row(row, targets, span);
     if k >= 8 {
-        return Started {
-            started: false,
+        return Turned {
+            one: false,
             word: 0,
         };
     }

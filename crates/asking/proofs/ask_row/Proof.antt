@@ -2,6 +2,7 @@
 use Prim.Native.Nat.{_<_}
 use native.Mathlib.Omega.{arith}
 use lib.ListN.{length}
+use Rattle.plan_view.specs.View.{Owner}
 use Rattle.asking.proofs.Joins.{full, joins}
 use borrow.Author.Needs.{needs}
 use Rattle.asking.proofs.ask_row.Statement.{statement}
@@ -16,10 +17,12 @@ same-length c = search needs
 returns : tie.Need-returns
 returns c =
     let a = c .before .before .before .before .args in
-    λ s f is. full (a .initiator) s (a .row .now) (a .target) (a .kind) (a .length) is (omega (arith, c .before .waiting .ensures (a .initiator) s f is))
+    λ p s f need is.
+    let o : Owner = record { plan = p; initiator = a .initiator } in
+    full o s (a .row .now) (a .target) (a .kind) (a .length) is (omega (arith, c .before .waiting .ensures .1 o s f is))
 
 join-row-requires : tie.Need-join-row-requires
-join-row-requires c κs = search needs
+join-row-requires c κs = (search needs, omega (arith, c .before .before .waiting .ensures .0))
 
 same-length-2 : tie.Need-same-length-2
 same-length-2 c = search needs
@@ -29,9 +32,10 @@ returns-2 c =
     let d = c .before .before .before .before in
     let a = d .before .before .before .before .args in
     let j = c .before .before .join-row in
-    λ s f is.
-    let short : length (s .line) < 8 = omega (arith, d .before .waiting .ensures (a .initiator) s f is) in
-    joins (a .initiator) s (j .last .0) (a .target) (a .kind) (a .length) short (j .result) (j .ensures s f is short)
+    λ p s f need is.
+    let o : Owner = record { plan = p; initiator = a .initiator } in
+    let short : length (s .line) < 8 = omega (arith, d .before .waiting .ensures .1 o s f is) in
+    joins o s (j .last .0) (a .target) (a .kind) (a .length) short (j .result) (j .ensures p s f need is)
 
 pub ask-row-spec : {M : Type 1} → statement M
 ask-row-spec =

@@ -8,15 +8,15 @@ use Rattle.asking.proofs.may_start.Statement.{statement}
 use Rattle.asking.proofs.may_start.Tie as tie
 
 abbrev Inv-loop : tie.InvT-loop
-Inv-loop spans aims row target length slot₀ slot = (slot ≤ 64) × Barred spans aims row target length slot
+Inv-loop spans aims row target need slot₀ slot = (slot ≤ 64) × Barred spans aims row target need slot
 
 abbrev μ-loop : tie.MeasureT-loop
-μ-loop spans aims row target length slot₀ slot = 64 - slot
+μ-loop spans aims row target need slot₀ slot = 64 - slot
 
 returns : tie.Need-returns Inv-loop μ-loop
 returns c =
     let a = c .before .args in
-    slots-beyond (a .spans .now) (a .aims .now) (a .row) (a .target) (a .length) (c .if1 .taken)
+    slots-beyond (a .spans .now) (a .aims .now) (a .row) (a .target) (a .need) (c .if1 .taken)
 
 targets-at-requires : tie.Need-targets-at-requires Inv-loop μ-loop
 targets-at-requires c κs = search needs
@@ -33,7 +33,7 @@ returns-2 c =
     let n = c .before .before .span-at in
     let r = c .before .permits in
     let a = c .before .before .before .before .before .args in
-    slots-met (a .spans .now) (a .aims .now) (a .row) (a .target) (a .length) 0 (t .result) (n .result) (r .result) (n .ensures) (t .ensures) (r .ensures) (c .if2 .taken)
+    slots-met (a .spans .now) (a .aims .now) (a .row) (a .target) (a .need) 0 (t .result) (n .result) (r .result) (n .ensures) (t .ensures) (r .ensures) (c .if2 .taken)
 
 lacks-requires : tie.Need-lacks-requires Inv-loop μ-loop
 lacks-requires c κs = search needs
@@ -45,8 +45,8 @@ returns-3 c =
     let n = d .before .before .span-at in
     let r = d .before .permits in
     let a = d .before .before .before .before .before .args in
-    c .before .lacks .ensures (c .if3 .taken) (a .spans .now) (a .length)
-    (slots-first (a .spans .now) (a .aims .now) (a .row) (a .target) (a .length) (t .result) (n .result) (r .result) (n .ensures) (t .ensures) (r .ensures) (d .if2 .left))
+    c .before .lacks .ensures (c .if3 .taken) (a .spans .now) (a .need)
+    (slots-first (a .spans .now) (a .aims .now) (a .row) (a .target) (a .need) (t .result) (n .result) (r .result) (n .ensures) (t .ensures) (r .ensures) (d .if2 .left))
 
 loop-holds : tie.Need-loop-holds Inv-loop μ-loop
 loop-holds c =
@@ -56,7 +56,7 @@ loop-holds c =
     let r = d .before .permits in
     let a = d .before .before .before .before .before .args in (
       search needs,
-      slots-first (a .spans .now) (a .aims .now) (a .row) (a .target) (a .length) (t .result) (n .result) (r .result) (n .ensures) (t .ensures) (r .ensures) (d .if2 .left),
+      slots-first (a .spans .now) (a .aims .now) (a .row) (a .target) (a .need) (t .result) (n .result) (r .result) (n .ensures) (t .ensures) (r .ensures) (d .if2 .left),
     )
 
 targets-at-requires-2 : tie.Need-targets-at-requires-2 Inv-loop μ-loop
@@ -75,7 +75,7 @@ returns-4 c =
     let r = c .before .permits2 in
     let s = c .before .before .before .before .before in
     let a = s .before .before .before .before .before .before .before .before .args in
-    slots-met (a .spans .now) (a .aims .now) (a .row) (a .target) (a .length) (s .loop .slot) (t .result) (n .result) (r .result) (n .ensures) (t .ensures) (r .ensures) (c .if4 .taken)
+    slots-met (a .spans .now) (a .aims .now) (a .row) (a .target) (a .need) (s .loop .slot) (t .result) (n .result) (r .result) (n .ensures) (t .ensures) (r .ensures) (c .if4 .taken)
 
 add-slot : tie.Need-add-slot Inv-loop μ-loop
 add-slot c = search needs
@@ -91,14 +91,14 @@ loop-again c =
     let s = c .before .before .before .before .before in
     let a = s .before .before .before .before .before .before .before .before .args in (
       search needs,
-      slots-next (a .spans .now) (a .aims .now) (a .row) (a .target) (a .length) (s .loop .slot) (t .result) (n .result) (r .result) (n .ensures) (t .ensures) (r .ensures) (s .loop .inv .1) (c .if4 .left),
+      slots-next (a .spans .now) (a .aims .now) (a .row) (a .target) (a .need) (s .loop .slot) (t .result) (n .result) (r .result) (n .ensures) (t .ensures) (r .ensures) (s .loop .inv .1) (c .if4 .left),
     )
 
 returns-5 : tie.Need-returns-5 Inv-loop μ-loop
 returns-5 c =
     let s = c .before in
     let a = s .before .before .before .before .before .before .before .before .args in
-    slots-done (a .spans .now) (a .aims .now) (a .row) (a .target) (a .length) (s .loop .slot) (omega arith) (s .loop .inv .1)
+    slots-done (a .spans .now) (a .aims .now) (a .row) (a .target) (a .need) (s .loop .slot) (omega arith) (s .loop .inv .1)
 
 pub may-start-spec : {M : Type 1} → statement M
 may-start-spec =

@@ -1,6 +1,7 @@
--- `join_row` meets its contract: a full line is none of a side that has room. Assumes nothing.
+-- `join_row` meets its contract. Assumes nothing.
 use native.Mathlib.Omega.{arith}
 use Rattle.initiators.specs.laws.RowWords.{count-at}
+use Rattle.plan_view.specs.View.{Owner}
 use Rattle.in_line.proofs.Rows.{joins}
 use borrow.Author.Needs.{needs}
 use Rattle.in_line.proofs.join_row.Statement.{statement}
@@ -14,9 +15,6 @@ slice-read-number c = search needs
 
 cast-number : tie.Need-cast-number
 cast-number c = search needs
-
-returns : tie.Need-returns
-returns c = λ s f is room. absurd (omega (arith, count-at (c .before .before .before .before .args .initiator) s f (c .before .before .before .before .args .row .now) is))
 
 word-of-requires : tie.Need-word-of-requires
 word-of-requires c κs = search needs
@@ -48,10 +46,13 @@ slice-write-row-3 c = search needs
 same-length : tie.Need-same-length
 same-length c = search needs
 
-returns-2 : tie.Need-returns-2
-returns-2 c =
-    let a = c .before .before .before .before .before .before .args in
-    λ s f is room. joins (a .initiator) s f (a .row .now) is (a .target) (a .kind) (a .length) _ _ room (c .before .word-of .ensures) (c .next-number .ensures)
+returns : tie.Need-returns
+returns c =
+    let a = c .before .before .before .before .before in
+    let x = a .args in
+    λ p s f need is.
+    let o : Owner = record { plan = p; initiator = x .initiator } in
+    joins o s f (x .row .now) is (x .target) (x .kind) (x .length) _ _ (omega (arith, a .pre .1, count-at o s f (x .row .now) is)) (c .before .word-of .ensures p need) (c .next-number .ensures)
 
 pub join-row-spec : {M : Type 1} → statement M
 join-row-spec =
@@ -60,7 +61,6 @@ join-row-spec =
     slice-read-n
     slice-read-number
     cast-number
-    returns
     word-of-requires
     add-row
     mul-row
@@ -71,4 +71,4 @@ join-row-spec =
     cast-row
     slice-write-row-3
     same-length
-    returns-2)
+    returns)

@@ -2,6 +2,7 @@
 use mathlib.Core.Path.{_≡_}
 use mathlib.Core.List.{List}
 use Prim.Native.Nat.{ℕ}
+use Rattle.plan_view.specs.View.{Owner}
 use lib.ListN.{set}
 use Rattle.box_rules.specs.State.{Side}
 use Rattle.box_rules.specs.Turn.{finish}
@@ -9,7 +10,7 @@ use Rattle.box_rules.specs.laws.Fit.{FitSide}
 use Rattle.initiators.specs.Run.{liveWord, liveTime, rowOf}
 use Rattle.initiators.specs.laws.RowWords.{live-set}
 
-module _ (i : ℕ) (s : Side) (f : FitSide s) (row : List ℕ) (is : row ≡ rowOf i s) where
+module _ (i : Owner) (s : Side) (f : FitSide s) (row : List ℕ) (is : row ≡ rowOf i s) where
   pub finished : set (set row 10 0) 11 0 ≡ rowOf i (finish s)
   unfolding rowOf finish liveWord liveTime
   finished = live-set i s f row is 0 0

@@ -13,13 +13,14 @@ use Rattle.lists.specs.Search.{isSome}
 use Rattle.lists.specs.Place.{atPlace}
 use Rattle.lists.specs.Cells.{padded}
 use Rattle.lists.specs.laws.Lines.{map-at}
+use Rattle.plan_view.specs.View.{Owner}
 use Rattle.box_rules.specs.State.{Request, Live, Side}
 use Rattle.box_rules.specs.laws.Fit.{FitSide, FitLive}
 use Rattle.initiators.specs.Run.{swapped, wordOf, targetIn, numberIn, lengthIn, liveWord, liveTime, rowOf}
 use Rattle.initiators.specs.Row.{liveRequest}
 use Rattle.initiators.specs.laws.Words.{Apart, apart, eight, live-word-in, live-time-in}
 
-live-apart : (i : ℕ) (o : Option Live) → ((l : Live) → o ≡ some l → FitLive l) → Apart (liveWord i o) (liveRequest o)
+live-apart : (i : Owner) (o : Option Live) → ((l : Live) → o ≡ some l → FitLive l) → Apart (liveWord i o) (liveRequest o)
 unfolding liveWord liveRequest swapped targetIn numberIn lengthIn
 live-apart i none f = record { kind = refl; target = refl; number = refl; length = refl }
 live-apart i (some l) f = apart i (l .request) (f l refl .request)
@@ -40,7 +41,7 @@ time-stored q a b t e =
 live-stored : (q : List ℕ) (a b w t : ℕ) → length q ≡ 8 → set (set (q ++ (a ∷ b ∷ [])) 8 w) 9 t ≡ q ++ (w ∷ t ∷ [])
 live-stored q a b w t e = ap (λ (l : List ℕ). set l 9 t) (set-at q a (b ∷ []) w 8 e) ∙ time-stored q w b t e
 
-module _ (i : ℕ) (s : Side) (f : FitSide s) (row : List ℕ) (is : row ≡ rowOf i s) where
+module _ (i : Owner) (s : Side) (f : FitSide s) (row : List ℕ) (is : row ≡ rowOf i s) where
   words : List ℕ
   words = map (wordOf i) (s .line)
 

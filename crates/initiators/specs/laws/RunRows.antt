@@ -20,18 +20,19 @@ use Rattle.lists.specs.laws.Blocks.{block-part, inPlace, block-put}
 use Rattle.plan_rules.specs.Plan.{Plan}
 use Rattle.plan_rules.specs.Meaning.{initiators}
 use Rattle.plan_rules.specs.laws.Initiators.{initiators-once}
+use Rattle.plan_view.specs.View.{Owner, ownerOf}
 use Rattle.box_rules.specs.State.{Side, idle}
 use Rattle.box_rules.specs.laws.Fit.{FitSide}
-use Rattle.initiators.specs.Run.{wordOf, liveWord, liveTime, rowOf, initiatorOf, sideOf, changed, rowsWith, runOf}
+use Rattle.initiators.specs.Run.{wordOf, liveWord, liveTime, rowOf, sideOf, changed, rowsWith, runOf}
 
-pub row-length : (i : ℕ) (s : Side) → FitSide s → length (rowOf i s) ≡ 12
+pub row-length : (i : Owner) (s : Side) → FitSide s → length (rowOf i s) ≡ 12
 unfolding rowOf
 row-length i s f =
     let a = length-append (padded 8 0 (map (wordOf i) (s .line))) (liveWord i (s .live) ∷ liveTime (s .live) ∷ []) in
     omega (arith, a, length-padded 8 0 (map (wordOf i) (s .line)) (omega (arith, f .few, length-map (s .line) (wordOf i))))
 
 -- eight rows
-module _ (n : ℕ → ℕ) (s : ℕ → Side) (fit : (k : ℕ) → FitSide (s k)) where
+module _ (n : ℕ → Owner) (s : ℕ → Side) (fit : (k : ℕ) → FitSide (s k)) where
   wide : (k : ℕ) → length (rowOf (n k) (s k)) ≡ 12
   wide k = row-length (n k) (s k) (fit k)
 
@@ -52,9 +53,9 @@ module _ (n : ℕ → ℕ) (s : ℕ → Side) (fit : (k : ℕ) → FitSide (s k)
 
 -- one initiator's side changed: its row
 pub run-changed : (p : Plan) (side : ℕ → Side) (f : Side → Side) (i row : ℕ) → atPlace row (initiators p) ≡ some i
-    → runOf p (λ (j : ℕ). cond (eqb j i) (f (side j)) (side j)) ≡ rowsWith (initiatorOf p) (changed row (f (side i)) (sideOf p side))
+    → runOf p (λ (j : ℕ). cond (eqb j i) (f (side j)) (side j)) ≡ rowsWith (ownerOf p) (changed row (f (side i)) (sideOf p side))
 unfolding runOf sideOf changed
-run-changed p side f i row at = ap (rowsWith (initiatorOf p)) (fun-ext (λ r. go r (atPlace r (initiators p)) refl))
+run-changed p side f i row at = ap (rowsWith (ownerOf p)) (fun-ext (λ r. go r (atPlace r (initiators p)) refl))
   where
     same : (r j : ℕ) → atPlace r (initiators p) ≡ some j → (b : Bool) → eqb r row ≡ b → cond (eqb j i) (f (side j)) (side j) ≡ cond b (f (side i)) (side j)
     same r j e true h =

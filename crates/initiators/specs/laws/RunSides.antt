@@ -1,5 +1,5 @@
 -- Run memory of a box: the side of each row fits, and what it holds once one initiator's row has been put back or has changed.
-use mathlib.Core.Path.{_≡_, refl, sym, ap, _∙_, fun-ext}
+use mathlib.Core.Path.{_≡_, refl, sym, ap, ap₂, _∙_, fun-ext}
 use mathlib.Core.List.{List, _++_}
 use mathlib.Core.Option.{Option, none, some}
 use mathlib.Core.Bool.{Bool, true, false, cond}
@@ -10,11 +10,12 @@ use borrow.Author.Tests.{eqb-true}
 use Rattle.lists.specs.Place.{atPlace}
 use Rattle.plan_rules.specs.Plan.{Plan}
 use Rattle.plan_rules.specs.Meaning.{initiators}
-use Rattle.plan_memory.specs.Memory.{ofRow}
+use Rattle.plan_view.specs.View.{Owner, ownerOf}
+use Rattle.plan_view.specs.laws.Entries.{owner-at}
 use Rattle.box_rules.specs.State.{Box, Side, idle, thePlan}
 use Rattle.box_rules.specs.Step.{withSide}
 use Rattle.box_rules.specs.laws.Fit.{FitSide, Fit, idle-fit}
-use Rattle.initiators.specs.Run.{rowOf, initiatorOf, sideOf, changed, rowsWith, runOf, Runs}
+use Rattle.initiators.specs.Run.{rowOf, sideOf, changed, rowsWith, runOf, Runs}
 use Rattle.initiators.specs.laws.RunRows.{run-part, run-put, run-changed}
 
 pub side-fit : (p : Plan) (side : ℕ → Side) → ((i : ℕ) → FitSide (side i)) → (r : ℕ) → FitSide (sideOf p side r)
@@ -28,17 +29,12 @@ side-fit p side f r = go (atPlace r (initiators p))
 pub sides-fit : (b : Box) → Fit b → (k : ℕ) → FitSide (sideOf (thePlan b) (b .side) k)
 sides-fit b fit k = side-fit (thePlan b) (b .side) (fit .sides) k
 
--- the initiator of a row
-pub initiator-at : (p : Plan) (row i : ℕ) → atPlace row (initiators p) ≡ some i → initiatorOf p row ≡ i
-unfolding initiatorOf ofRow
-initiator-at p row i at = rw (at, initiatorOf, ofRow)
-
 pub side-at : (p : Plan) (side : ℕ → Side) (row i : ℕ) → atPlace row (initiators p) ≡ some i → sideOf p side row ≡ side i
 unfolding sideOf
 side-at p side row i at = rw (at, sideOf)
 
 -- a row put back as it was
-pub rows-kept : (n : ℕ → ℕ) (s : ℕ → Side) (row : ℕ) → rowsWith n (changed row (s row) s) ≡ rowsWith n s
+pub rows-kept : (n : ℕ → Owner) (s : ℕ → Side) (row : ℕ) → rowsWith n (changed row (s row) s) ≡ rowsWith n s
 unfolding changed
 rows-kept n s row = ap (rowsWith n) (fun-ext (λ r. go r (eqb r row) refl))
   where
@@ -46,35 +42,39 @@ rows-kept n s row = ap (rowsWith n) (fun-ext (λ r. go r (eqb r row) refl))
     go r true e = ap s (sym (eqb-true r row e))
     go r false e = refl
 
-module _ (b : Box) (run last : List ℕ) (holds : Runs b run last) (i row : ℕ) (at : atPlace row (initiators (thePlan b)) ≡ some i) where
-  -- what is told of the row's side, told of the initiator's
-  pub on-side : {A : Type 0} (g : Side → A) (f : Side → Side) (r : A) (run′ : List ℕ) → Fit b
-      → ((s : ℕ → Side) → ((k : ℕ) → FitSide (s k)) → run ≡ rowsWith (initiatorOf (thePlan b)) s
-      → (r ≡ g (s row)) × (run′ ≡ rowsWith (initiatorOf (thePlan b)) (changed row (f (s row)) s)))
-      → (r ≡ g (b .side i)) × (run′ ≡ rowsWith (initiatorOf (thePlan b)) (changed row (f (b .side i)) (sideOf (thePlan b) (b .side))))
-  unfolding runOf
-  on-side g f r run′ fit told =
-      let (a, e) = told (sideOf (thePlan b) (b .side)) (sides-fit b fit) (holds .run) in
-      let z = side-at (thePlan b) (b .side) row i at in
-      (a ∙ ap g z, e ∙ ap (λ (x : Side). rowsWith (initiatorOf (thePlan b)) (changed row (f x) (sideOf (thePlan b) (b .side)))) z)
-
-  pub runs-kept : (run′ : List ℕ) → run′ ≡ rowsWith (initiatorOf (thePlan b)) (changed row (b .side i) (sideOf (thePlan b) (b .side))) → Runs b run′ last
-  unfolding runOf
-  runs-kept run′ e = record {
-    run = e
-        ∙ ap (λ (x : Side). rowsWith (initiatorOf (thePlan b)) (changed row x (sideOf (thePlan b) (b .side)))) (sym (side-at (thePlan b) (b .side) row i at))
-        ∙ rows-kept (initiatorOf (thePlan b)) (sideOf (thePlan b) (b .side)) row;
-    last = holds .last;
-  }
-
-  pub runs-changed : (f : Side → Side) (run′ : List ℕ) → run′ ≡ rowsWith (initiatorOf (thePlan b)) (changed row (f (b .side i)) (sideOf (thePlan b) (b .side))) → Runs (withSide b i f) run′ last
-  unfolding withSide thePlan
-  runs-changed f run′ e = record { run = e ∙ sym (run-changed (thePlan b) (b .side) f i row at); last = holds .last }
-
 -- one row lent, and put back with another side
-module _ (n : ℕ → ℕ) (s : ℕ → Side) (fit : (k : ℕ) → FitSide (s k)) (run : List ℕ) (is : run ≡ rowsWith n s) (row size : ℕ) (small : row < 8) (twelve : size ≡ 12) where
+module _ (n : ℕ → Owner) (s : ℕ → Side) (fit : (k : ℕ) → FitSide (s k)) (run : List ℕ) (is : run ≡ rowsWith n s) (row size : ℕ) (small : row < 8) (twelve : size ≡ 12) where
   pub row-lent : take size (drop (row * 12) run) ≡ rowOf (n row) (s row)
   row-lent = rw (is, twelve) (run-part n s fit row small)
 
   pub row-back : (x : Side) (part : List ℕ) → part ≡ rowOf (n row) x → take (row * 12) run ++ (part ++ drop size (drop (row * 12) run)) ≡ rowsWith n (changed row x s)
   row-back x part e = rw (is, twelve, e) (run-put n s fit row small x)
+
+module _ (b : Box) (run last : List ℕ) (holds : Runs b run last) (i row : ℕ) (at : atPlace row (initiators (thePlan b)) ≡ some i) where
+  -- what is told of the row that is lent, told of the initiator's side and of run memory
+  pub on-row : {A : Type 0} (g : Side → A) (f : Side → Side) (r : A) (size : ℕ) (part : List ℕ) → Fit b → row < 8 → size ≡ 12
+      → ((s : Side) → FitSide s → take size (drop (row * 12) run) ≡ rowOf (record { plan = thePlan b; initiator = i }) s
+      → (r ≡ g s) × (part ≡ rowOf (record { plan = thePlan b; initiator = i }) (f s)))
+      → (r ≡ g (b .side i)) × (take (row * 12) run ++ (part ++ drop size (drop (row * 12) run)) ≡ rowsWith (ownerOf (thePlan b)) (changed row (f (b .side i)) (sideOf (thePlan b) (b .side))))
+  unfolding runOf
+  on-row g f r size part fit low twelve told =
+      let n = ownerOf (thePlan b) in
+      let s = sideOf (thePlan b) (b .side) in
+      let fits = sides-fit b fit in
+      let o = owner-at (thePlan b) row i at in
+      let lent = row-lent n s fits run (holds .run) row size low twelve ∙ ap₂ rowOf o (side-at (thePlan b) (b .side) row i at) in
+      let (a, e) = told (b .side i) (fit .sides i) lent in
+      (a, row-back n s fits run (holds .run) row size low twelve (f (b .side i)) part (e ∙ ap (λ (x : Owner). rowOf x (f (b .side i))) (sym o)))
+
+  pub runs-kept : (run′ : List ℕ) → run′ ≡ rowsWith (ownerOf (thePlan b)) (changed row (b .side i) (sideOf (thePlan b) (b .side))) → Runs b run′ last
+  unfolding runOf
+  runs-kept run′ e = record {
+    run = e
+        ∙ ap (λ (x : Side). rowsWith (ownerOf (thePlan b)) (changed row x (sideOf (thePlan b) (b .side)))) (sym (side-at (thePlan b) (b .side) row i at))
+        ∙ rows-kept (ownerOf (thePlan b)) (sideOf (thePlan b) (b .side)) row;
+    last = holds .last;
+  }
+
+  pub runs-changed : (f : Side → Side) (run′ : List ℕ) → run′ ≡ rowsWith (ownerOf (thePlan b)) (changed row (f (b .side i)) (sideOf (thePlan b) (b .side))) → Runs (withSide b i f) run′ last
+  unfolding withSide thePlan
+  runs-changed f run′ e = record { run = e ∙ sym (run-changed (thePlan b) (b .side) f i row at); last = holds .last }

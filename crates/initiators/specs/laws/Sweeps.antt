@@ -19,9 +19,10 @@ use Rattle.lists.specs.laws.Puts.{puts-none, puts-then}
 use Rattle.plan_rules.specs.Plan.{Plan}
 use Rattle.plan_rules.specs.Meaning.{initiators}
 use Rattle.plan_memory.specs.Memory.{ofRow}
+use Rattle.plan_view.specs.View.{ownerOf}
 use Rattle.box_rules.specs.State.{Side, idle}
 use Rattle.box_rules.specs.laws.Fit.{FitSide}
-use Rattle.initiators.specs.Run.{initiatorOf, sideOf, changed, rowsWith, runOf}
+use Rattle.initiators.specs.Run.{sideOf, changed, rowsWith, runOf}
 use Rattle.initiators.specs.laws.RunSides.{side-fit}
 
 no-side : (p : Plan) (side : ℕ → Side) (r : ℕ) → length (initiators p) ≤ r → sideOf p side r ≡ idle
@@ -78,19 +79,19 @@ module _ (p : Plan) (old new : ℕ → Side) where
 
   -- the sweep's invariant
   pub record Sweep (part : ℕ → List ℕ) (before : List ℕ) (i : ℕ) (run′ after : List ℕ) (j k : ℕ) : Type 0 where
-    pub run : run′ ≡ rowsWith (initiatorOf p) (swept k)
+    pub run : run′ ≡ rowsWith (ownerOf p) (swept k)
     pub puts : Puts before i (flatMap part (take k (initiators p))) after j
 
   pub sweep-begin : (part : ℕ → List ℕ) (before : List ℕ) (i : ℕ) (run : List ℕ) → run ≡ runOf p old → Sweep part before i run before i 0
   unfolding runOf flatMap
-  sweep-begin part before i run h = record { run = h ∙ ap (rowsWith (initiatorOf p)) (fun-ext (λ r. sym (swept-none r))); puts = puts-none before i }
+  sweep-begin part before i run h = record { run = h ∙ ap (rowsWith (ownerOf p)) (fun-ext (λ r. sym (swept-none r))); puts = puts-none before i }
 
   module _ {part : ℕ → List ℕ} {before : List ℕ} {i : ℕ} {run after : List ℕ} {j k : ℕ} (a : Sweep part before i run after j k) where
     -- f is what becomes of the side of row k, and g what is put: nothing of an idle side where the row has no initiator
     module _ (f : Side → Side) (g : ℕ → Side → List ℕ) (behind : atPlace k (initiators p) ≡ none → (f idle ≡ idle) × (g 0 idle ≡ []))
         (each : (x : ℕ) → atPlace k (initiators p) ≡ some x → (f (old x) ≡ new x) × (g x (old x) ≡ part x)) where
-      turn : (f (sideOf p old k) ≡ sideOf p new k) × (g (initiatorOf p k) (sideOf p old k) ≡ partAt part k (initiators p))
-      unfolding sideOf initiatorOf ofRow partAt
+      turn : (f (sideOf p old k) ≡ sideOf p new k) × (g ((ownerOf p k) .initiator) (sideOf p old k) ≡ partAt part k (initiators p))
+      unfolding sideOf ownerOf ofRow partAt
       turn = go (atPlace k (initiators p)) refl
         where
           go : (o : Option ℕ) → atPlace k (initiators p) ≡ o
@@ -99,15 +100,15 @@ module _ (p : Plan) (old new : ℕ → Side) where
           go none at = behind at
           go (some x) at = each x at
 
-      pub sweep-next : (run′ after′ : List ℕ) (j′ : ℕ) → run′ ≡ rowsWith (initiatorOf p) (changed k (f (swept k k)) (swept k)) → Puts after j (g (initiatorOf p k) (swept k k)) after′ j′
+      pub sweep-next : (run′ after′ : List ℕ) (j′ : ℕ) → run′ ≡ rowsWith (ownerOf p) (changed k (f (swept k k)) (swept k)) → Puts after j (g ((ownerOf p k) .initiator) (swept k k)) after′ j′
           → Sweep part before i run′ after′ j′ (k + 1)
       sweep-next run′ after′ j′ er ps =
           let here = swept-here k in
           record {
-            run = er ∙ ap (λ (y : Side). rowsWith (initiatorOf p) (changed k y (swept k))) (ap f here ∙ turn .0) ∙ ap (rowsWith (initiatorOf p)) (fun-ext (swept-next k));
+            run = er ∙ ap (λ (y : Side). rowsWith (ownerOf p) (changed k y (swept k))) (ap f here ∙ turn .0) ∙ ap (rowsWith (ownerOf p)) (fun-ext (swept-next k));
             puts = rw (add-one k, flat-place part (initiators p) k) (puts-then (a .puts) (rw (here, turn .1) at ps));
           }
 
     pub sweep-done : length (initiators p) ≤ k → (run ≡ runOf p new) × Puts before i (flatMap part (initiators p)) after j
     unfolding runOf
-    sweep-done h = (a .run ∙ ap (rowsWith (initiatorOf p)) (fun-ext (swept-all k h)), rw (take-all k (initiators p) h) at (a .puts))
+    sweep-done h = (a .run ∙ ap (rowsWith (ownerOf p)) (fun-ext (swept-all k h)), rw (take-all k (initiators p) h) at (a .puts))

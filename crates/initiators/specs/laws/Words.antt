@@ -7,9 +7,12 @@ use lib.ListN.{length, getD, length-map}
 use lib.Seq.{getD-at, getD-append-add}
 use Rattle.lists.specs.Cells.{padded}
 use Rattle.lists.specs.laws.Cells.{length-padded}
+use Rattle.plan_rules.specs.Meaning.{leastSpan}
+use Rattle.plan_rules.specs.laws.Spans.{least-span-most}
+use Rattle.plan_view.specs.View.{Owner}
 use Rattle.box_rules.specs.State.{Request, Side}
 use Rattle.box_rules.specs.laws.Fit.{FitRequest, FitSide}
-use Rattle.initiators.specs.Run.{swapped, wordOf, targetIn, numberIn, lengthIn, liveWord, liveTime, rowOf}
+use Rattle.initiators.specs.Run.{swapped, wordOf, targetIn, needIn, numberIn, lengthIn, liveWord, liveTime, rowOf}
 
 -- the parts of a word are the request's
 pub record Apart (w : ℕ) (r : Request) : Type 0 where
@@ -26,29 +29,48 @@ swapped-twice : (n : ℕ) → n < 65_536 → swapped (swapped n) ≡ n
 unfolding swapped
 swapped-twice n h = omega arith
 
--- five numbers, each within its bits of a word: four of them come out of it again
-parted : (w k i t a b : ℕ) → k ≤ 1 → i < 256 → t < 64 → a < 65_536 → b < 65_536 → w ≡ k * 128 + i * 256 + t * 65_536 + a * 4_294_967_296 + b * 281_474_976_710_656
-    → (w / 128 % 2 ≡ k) × (w / 65_536 % 64 ≡ t) × (w / 4_294_967_296 % 65_536 ≡ a) × (w / 281_474_976_710_656 % 65_536 ≡ b)
-parted w k i t a b k< i< t< a< b< is = (omega arith, omega arith, omega arith, omega arith)
+-- six numbers, each within its bits of a word: five of them come out of it again
+parted : (w k i t n a b : ℕ) → k ≤ 1 → i < 256 → t < 64 → n < 256 → a < 65_536 → b < 65_536
+    → w ≡ k * 128 + i * 256 + t * 65_536 + n * 16_777_216 + a * 4_294_967_296 + b * 281_474_976_710_656
+    → (w / 128 % 2 ≡ k) × (w / 65_536 % 64 ≡ t) × (w / 4_294_967_296 % 65_536 ≡ a) × (w / 281_474_976_710_656 % 65_536 ≡ b) × (w / 16_777_216 % 256 ≡ n)
+parted w k i t n a b k< i< t< n< a< b< is = (omega arith, omega arith, omega arith, omega arith, omega arith)
 
-pub apart : (i : ℕ) (r : Request) → FitRequest r → Apart (wordOf i r) r
-unfolding wordOf targetIn numberIn lengthIn
-apart i r f =
-    let l< : r .length < 65_536 = omega (arith, f .length) in
-    let i< : i % 256 < 256 = omega arith in
-    let (kind, target, number, length) =
-    parted (wordOf i r) (r .kind) (i % 256) (r .target) (swapped (r .number)) (swapped (r .length)) (f .kind) i< (f .target) (swapped-small (r .number) (f .number))
-    (swapped-small (r .length) l<) refl
-    in
-    record {
-      kind = kind;
-      target = target;
-      number = ap swapped number ∙ swapped-twice (r .number) (f .number);
-      length = ap swapped length ∙ swapped-twice (r .length) l<;
-    }
+module _ (o : Owner) (r : Request) (f : FitRequest r) where
+  abbrev need : ℕ
+  need = leastSpan (o .plan) (o .initiator) (r .target) (r .length)
+
+  pub need-small : need < 256
+  need-small = omega (arith, (least-span-most (o .plan) (o .initiator) (r .target) (r .length)) .1)
+
+  length-small : r .length < 65_536
+  length-small = omega (arith, f .length)
+
+  parts : let w = wordOf o r in
+      (w / 128 % 2 ≡ r .kind) × (w / 65_536 % 64 ≡ r .target) × (w / 4_294_967_296 % 65_536 ≡ swapped (r .number)) × (w / 281_474_976_710_656 % 65_536 ≡ swapped (r .length))
+      × (w / 16_777_216 % 256 ≡ need)
+  unfolding wordOf
+  parts =
+      let i< : o .initiator % 256 < 256 = omega arith in
+      parted (wordOf o r) (r .kind) (o .initiator % 256) (r .target) need (swapped (r .number)) (swapped (r .length)) (f .kind) i< (f .target) need-small
+      (swapped-small (r .number) (f .number)) (swapped-small (r .length) length-small) refl
+
+  pub apart : Apart (wordOf o r) r
+  unfolding targetIn numberIn lengthIn
+  apart =
+      let (kind, target, number, length, n) = parts in
+      record {
+        kind = kind;
+        target = target;
+        number = ap swapped number ∙ swapped-twice (r .number) (f .number);
+        length = ap swapped length ∙ swapped-twice (r .length) length-small;
+      }
+
+  pub need-in : needIn (wordOf o r) ≡ need
+  unfolding needIn
+  need-in = parts .4
 
 -- behind the line
-module _ (i : ℕ) (s : Side) (f : FitSide s) where
+module _ (i : Owner) (s : Side) (f : FitSide s) where
   abbrev places : List ℕ
   places = padded 8 0 (map (wordOf i) (s .line))
 

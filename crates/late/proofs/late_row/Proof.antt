@@ -23,9 +23,9 @@ returns c =
     let m = d .before .before .before .age-row in
     let a = d .before .before .before .before .before .before .before .args in
     let p = c .before .before .put-full .ensures in (
-      λ clock i s small f is. (
-        m .ensures i s f is .1,
-        late-puts clock i (a .v) (a .in-sequence) (m .result) (s .live) (f .live) (m .ensures i s f is .0) (d .if1 .taken) (a .out .now) _ (a .at) _ (λ x. p .0 clock i x small),
+      λ o s small f is. (
+        m .ensures o s f is .1,
+        late-puts (a .clock) o (a .v) (a .in-sequence) (m .result) (s .live) (f .live) (m .ensures o s f is .0) (d .if1 .taken) (a .out .now) _ (a .at) _ (λ x. p .0 o x small),
       ),
       omega (arith, p .1),
     )
@@ -37,7 +37,7 @@ returns-2 : tie.Need-returns-2
 returns-2 c =
     let m = c .before .before .before .age-row in
     let a = c .before .before .before .before .before .before .before .args in (
-      λ clock i s small f is. (m .ensures i s f is .1, late-not clock i (a .v) (a .in-sequence) (m .result) (s .live) (m .ensures i s f is .0) (c .if1 .left) (a .out .now) (a .at)),
+      λ o s small f is. (m .ensures o s f is .1, late-not (a .clock) o (a .v) (a .in-sequence) (m .result) (s .live) (m .ensures o s f is .0) (c .if1 .left) (a .out .now) (a .at)),
       omega arith,
     )
 

@@ -11,6 +11,7 @@ use Rattle.lists.specs.Search.{any, isIn, below64}
 use Rattle.lists.specs.laws.Bools.{both-true, not-both}
 use Rattle.lists.specs.laws.Search.{find-some, find-has, keep-none, isIn-elim}
 use Rattle.plan_rules.specs.Plan.{Entry, Plan, blank}
+use Rattle.plan_rules.specs.laws.Spans.{fits-longer, fits-short}
 use Rattle.plan_rules.specs.Meaning.{isInitiator, initiators, uses, covers, fits, permits, standsAt, entryAt, mayUse}
 use Rattle.plan_rules.specs.laws.Sound.{Sound}
 use Rattle.plan_rules.specs.laws.Initiators.{in-initiators}
@@ -36,10 +37,11 @@ unfolding permits
 permits-target p e t n h = isIn-elim t (e .targets) ((both-true (isIn t (e .targets)) (fits p e t n) h) .0)
 
 module _ (p : Plan) (ok : Sound p) (e : Entry) (me : List·Memᴰ e (p .entries)) where
-  -- what it permits has at most 256 data bytes for each of at most 16 slots
+  -- what it permits fits 16 slots too
   pub permits-short : (t n : ℕ) → permits p e t n ≡ true → n ≤ 4096
   unfolding permits fits
-  permits-short t n h = omega (arith, leb-true n (256 * e .span) ((both-true (isIn t (e .targets)) (fits p e t n) h) .1), ok .spans e me)
+  permits-short t n h =
+      fits-short p (e .initiator) t n (fits-longer p (e .initiator) t n (e .span) 16 (omega (arith, ok .spans e me)) ((both-true (isIn t (e .targets)) (fits p e t n) h) .1))
 
   pub its-initiator : List·Memᴰ (e .initiator) (initiators p)
   its-initiator = in-initiators p (e .initiator) (ok .below e me) (ok .initiator e me)

@@ -1,21 +1,20 @@
--- What the cells tell of the entries of a sound plan, and what an entry permits, told from its targets and its span.
+-- What the cells tell of the entries of a sound plan, and how long a span a transaction needs.
 use mathlib.Core.Path.{_≡_, refl, sym, ap, _∙_}
+use mathlib.Core.Logic.{_≢_}
 use mathlib.Core.List.{List}
 use mathlib.Core.Option.{Option, none, some}
-use mathlib.Core.Bool.{true, false}
-use Prim.Native.Nat.{ℕ, _+_, _*_, _≤_, _<_}
+use Prim.Native.Nat.{ℕ, _+_, _-_, _*_, _/_, _≤_, _<_}
 use native.Mathlib.Omega.{arith}
-use lib.Dec.{leb}
+use borrow.Author.Tests.{le-leb, lt-leb}
 use Rattle.lists.specs.Place.{atPlace}
 use Rattle.lists.specs.laws.At.{at-none}
-use Rattle.sets.specs.Set.{member}
 use Rattle.plan_rules.specs.Plan.{nth, Entry, Plan}
-use Rattle.plan_rules.specs.Meaning.{initiators, fits, permits, entryAt}
+use Rattle.plan_rules.specs.Meaning.{initiators, entryAt, fitsIn, leastSpan}
 use Rattle.plan_rules.specs.laws.Sound.{Sound}
 use Rattle.plan_rules.specs.laws.Runs.{entry-at}
+use Rattle.plan_rules.specs.laws.Spans.{least-span-is, least-span-none}
 use Rattle.plan_memory.specs.Memory.{ofRow, spanOf, spansOf, aimOf, aimsOf}
 use Rattle.plan_memory.specs.laws.InRows.{of-row, of-no-row, span-cell, aim-cell}
-use Rattle.plan_view.specs.View.{Tells}
 
 module _ (p : Plan) (ok : Sound p) where
   -- no row from the eighth on, and no entry stands at a slot from the 64th on
@@ -54,11 +53,18 @@ module _ (p : Plan) (ok : Sound p) where
     pub aim-told : r < 8 → v < 64 → (aims : List ℕ) → aims ≡ aimsOf p → nth aims (r * 64 + v) ≡ ofRow p r (λ (i : ℕ). aimOf (entryAt (p .entries) i v))
     aim-told h g aims is = rw is (aim-cell p r v h g)
 
-module _ (p : Plan) (e : Entry) (targets span : ℕ) (tells : Tells targets span e) (t n : ℕ) where
-  pub permits-if : member t targets ≡ true → leb n (256 * span) ≡ permits p e t n
-  unfolding permits fits
-  permits-if h = rw (tells .targets t, h, tells .span)
+-- the least span, by how long the transaction is
+module _ (p : Plan) (i t n : ℕ) where
+  pub least-beyond : 4096 < n → 17 ≡ leastSpan p i t n
+  unfolding fitsIn
+  least-beyond h = least-span-none p i t n (λ m low high. lt-leb n (256 * m) (omega arith))
 
-  pub permits-not : member t targets ≡ false → false ≡ permits p e t n
-  unfolding permits
-  permits-not h = rw (tells .targets t, h)
+  pub least-empty : n ≡ 0 → 1 ≡ leastSpan p i t n
+  unfolding fitsIn
+  least-empty h = least-span-is p i t n 1 (omega arith) (omega arith) (le-leb n (256 * 1) (omega arith)) (λ m low high. absurd (omega arith))
+
+  pub least-of : n ≤ 4096 → n ≢ 0 → (n - 1) / 256 + 1 ≡ leastSpan p i t n
+  unfolding fitsIn
+  least-of h d =
+      let k = (n - 1) / 256 + 1 in
+      least-span-is p i t n k (omega arith) (omega arith) (le-leb n (256 * k) (omega arith)) (λ m low high. lt-leb n (256 * m) (omega arith))

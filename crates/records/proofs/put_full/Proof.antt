@@ -1,4 +1,5 @@
 -- `put_full` meets its contract: the word has the record's bytes, and the kind and value that are added fill the rest. Assumes nothing.
+use native.Mathlib.Omega.{arith}
 use Rattle.records.specs.Bytes.{bytesOf}
 use Rattle.records.proofs.Laws.{full-puts}
 use borrow.Author.Needs.{needs}
@@ -10,6 +11,12 @@ mul-bare c = search needs
 
 sub-bare : tie.Need-sub-bare
 sub-bare c = search needs
+
+mul-bare-2 : tie.Need-mul-bare-2
+mul-bare-2 c = search needs
+
+sub-bare-2 : tie.Need-sub-bare-2
+sub-bare-2 c = omega arith
 
 mul-head : tie.Need-mul-head
 mul-head c = search needs
@@ -33,7 +40,7 @@ returns c =
     let a = b .before .before .before .args in
     let w = b .wrapping-add-u64 in
     let p = c .before .before .put-word .ensures in
-    (λ clock i x i< f is. full-puts clock (a .kind) i (a .v) (a .word) (w .result) x i< f is (search needs) (search needs) (w .ensures) p, p .next)
+    (λ o x i< f is. full-puts (a .clock) (a .kind) o (a .v) (a .word) (w .result) x i< f is (search needs) (search needs) (w .ensures) p, p .next)
 
 pub put-full-spec : {M : Type 1} → statement M
 put-full-spec =
@@ -41,6 +48,8 @@ put-full-spec =
     (tie.spec
     mul-bare
     sub-bare
+    mul-bare-2
+    sub-bare-2
     mul-head
     add-head
     wrapping-add-u64-requires

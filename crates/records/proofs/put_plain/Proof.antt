@@ -15,7 +15,7 @@ same-length c = search needs
 
 returns : tie.Need-returns
 unfolding recordBytes plain
-returns c = λ clock. c .before .before .put .ensures
+returns c = c .before .before .put .ensures
 
 pub put-plain-spec : {M : Type 1} → statement M
 put-plain-spec = tie.close (tie.spec slice-aggregate-put put-requires same-length returns)

@@ -10,7 +10,7 @@ use Rattle.records.proofs.put_sequence.Tie as tie
 returns : tie.Need-returns
 returns c =
     let a = c .before .before .args in
-    (λ clock. rw (c .if1 .taken) (sequence-in (a .out .now) (a .at) clock (a .v)), λ _. omega arith, λ _. refl)
+    (rw (c .if1 .taken) (sequence-in (a .out .now) (a .at) (a .clock) (a .v)), λ _. omega arith, λ _. refl)
 
 put-plain-requires : tie.Need-put-plain-requires
 put-plain-requires c κs = search needs
@@ -21,9 +21,9 @@ same-length c = search needs
 returns-2 : tie.Need-returns-2
 returns-2 c =
     let d = c .before .before .before .before in
-    let v = d .before .before .args .v in
+    let a = d .before .before .args in
     let p = c .before .before .put-plain .ensures in
-    (λ clock. rw (d .if1 .left) (sequence-out clock v (p clock)), plain-next 0 3 v (p 0), λ t. not-both t (d .if1 .left))
+    (rw (d .if1 .left) (sequence-out (a .clock) (a .v) p), plain-next (a .clock) 3 (a .v) p, λ t. not-both t (d .if1 .left))
 
 pub put-sequence-spec : {M : Type 1} → statement M
 put-sequence-spec = tie.close (tie.spec returns put-plain-requires same-length returns-2)

@@ -18,7 +18,7 @@ returns : tie.Need-returns
 returns c =
     let d = c .before .before .before .before in
     let a = d .before .before .before .args in
-    let p = c .before .before .put-plain .ensures (a .clock) in
+    let p = c .before .before .put-plain .ensures in
     (watchdog-early (a .clock) (a .w) (a .v) (d .before .is-early .result) (d .before .is-early .ensures) (d .if1 .taken) p, plain-next (a .clock) 1 (a .v) p)
 
 is-overdue-requires : tie.Need-is-overdue-requires
@@ -35,7 +35,7 @@ returns-2 c =
     let d = c .before .before .before .before in
     let e = d .before .before in
     let a = e .before .before .before .args in
-    let p = c .before .before .put-plain2 .ensures (a .clock) in (
+    let p = c .before .before .put-plain2 .ensures in (
       watchdog-late (a .clock) (a .w) (a .v) (e .before .is-early .result) (e .before .is-early .ensures) (e .if1 .left) (d .before .is-overdue .result) (d .before .is-overdue .ensures) (d .if2 .taken) p,
       plain-next (a .clock) 2 (a .v) p,
     )

@@ -1,15 +1,16 @@
 -- A reply, row by row of the refusals; of an initiator, what is told of its row.
 use mathlib.Core.Path.{_≡_, refl}
-use mathlib.Core.List.{List}
+use mathlib.Core.List.{List, _++_}
 use mathlib.Core.Option.{Option, some}
 use mathlib.Core.Bool.{Bool, true, false, not, cond}
-use Prim.Native.Nat.{ℕ, _≤_, _<_}
+use Prim.Native.Nat.{ℕ, _*_, _≤_, _<_}
+use lib.ListN.{take, drop}
 use Rattle.lists.specs.Search.{isSome}
 use Rattle.lists.specs.Rows.{firstOf}
 use Rattle.lists.specs.Place.{atPlace}
 use Rattle.plan_rules.specs.Plan.{Plan}
 use Rattle.plan_rules.specs.Meaning.{initiators}
-use Rattle.plan_view.specs.View.{Timed}
+use Rattle.plan_view.specs.View.{Timed, Owner, ownerOf}
 use Rattle.box_rules.specs.declared.Event.the-variants.{Reply}
 use Rattle.box_rules.specs.declared.Answer.{Answer}
 use Rattle.box_rules.specs.declared.Watchdog.{Watchdog}
@@ -19,8 +20,8 @@ use Rattle.box_rules.specs.Refuse.{refusal, refusals, isLiveNumber}
 use Rattle.box_rules.specs.Step.{step, accepts}
 use Rattle.box_rules.specs.laws.Steps.{step-accepted}
 use Rattle.box_rules.specs.laws.Fit.{FitSide}
-use Rattle.initiators.specs.Run.{initiatorOf, sideOf, changed, rowsWith}
-use Rattle.initiators.specs.laws.RunSides.{on-side, runs-kept, runs-changed}
+use Rattle.initiators.specs.Run.{rowOf, sideOf, changed, rowsWith}
+use Rattle.initiators.specs.laws.RunSides.{on-row, runs-kept, runs-changed}
 use Rattle.ending.specs.Sides.{repliedAnswer, repliedSide}
 use Rattle.initiators.specs.Memory.{Finds, Answers}
 use Rattle.initiators.specs.laws.Found.{Rowed, plan-by-row, is-initiator, its-row, no-initiator}
@@ -61,23 +62,25 @@ module _
       at : atPlace row (initiators (thePlan b)) ≡ some i
       at = its-row f i row rowed low
 
-      pub ends : (r : Answer) (run′ : List ℕ)
-          → ((n : ℕ → ℕ) (s : ℕ → Side) → ((k : ℕ) → FitSide (s k)) → run ≡ rowsWith n s → (r ≡ repliedAnswer m status (s row)) × (run′ ≡ rowsWith n (changed row (repliedSide m (s row)) s)))
-          → Gives r run′
+      -- the reply's row, lent and back
+      pub ends : (r : Answer) (size : ℕ) (part : List ℕ) → size ≡ 12
+          → ((o : Owner) (s : Side) → FitSide s → take size (drop (row * 12) run) ≡ rowOf o s → (r ≡ repliedAnswer m status s) × (part ≡ rowOf o (repliedSide m s)))
+          → Gives r (take (row * 12) run ++ (part ++ drop size (drop (row * 12) run)))
       unfolding repliedAnswer repliedSide accepts
-      ends r run′ does =
+      ends r size part twelve does =
           go (isSome ((b .side i) .live)) refl (isLiveNumber m ((b .side i) .live)) refl
-          (on-side b run last (f .runs) i row at (repliedAnswer m status) (repliedSide m) r run′ (f .fit) (does (initiatorOf (thePlan b))))
+          (on-row b run last (f .runs) i row at (repliedAnswer m status) (repliedSide m) r size part (f .fit) low twelve (does (record { plan = thePlan b; initiator = i })))
         where
           go : (y : Bool) → isSome ((b .side i) .live) ≡ y → (z : Bool) → isLiveNumber m ((b .side i) .live) ≡ z
-              → (r ≡ repliedAnswer m status (b .side i)) × (run′ ≡ rowsWith (initiatorOf (thePlan b)) (changed row (repliedSide m (b .side i)) (sideOf (thePlan b) (b .side)))) → Gives r run′
+              → (r ≡ repliedAnswer m status (b .side i)) × (take (row * 12) run ++ (part ++ drop size (drop (row * 12) run)) ≡ rowsWith (ownerOf (thePlan b)) (changed row (repliedSide m (b .side i)) (sideOf (thePlan b) (b .side))))
+              → Gives r (take (row * 12) run ++ (part ++ drop size (drop (row * 12) run)))
           go false e z d h =
               let (a, n) = rw (e, repliedAnswer, no-number m ((b .side i) .live) e, repliedSide) at h in
-              rw a (refuses room b w (Reply i m status) 27 refl (rw (last-rows, e)) run′ last (runs-kept b run last (f .runs) i row at run′ n))
+              rw a (refuses room b w (Reply i m status) 27 refl (rw (last-rows, e)) _ last (runs-kept b run last (f .runs) i row at _ n))
           go true e false d h =
               let (a, n) = rw (e, d, repliedAnswer, repliedSide) at h in
-              rw a (refuses room b w (Reply i m status) 28 refl (rw (last-rows, e, d)) run′ last (runs-kept b run last (f .runs) i row at run′ n))
+              rw a (refuses room b w (Reply i m status) 28 refl (rw (last-rows, e, d)) _ last (runs-kept b run last (f .runs) i row at _ n))
           go true e true d h =
               let (a, n) = rw (e, d, repliedAnswer, repliedSide) at h in
               rw (step-accepted room b w (Reply i m status) (rw (last-rows, e, d)), a)
-              (record { answer = refl; runs = runs-changed b run last (f .runs) i row at finish run′ n })
+              (record { answer = refl; runs = runs-changed b run last (f .runs) i row at finish _ n })

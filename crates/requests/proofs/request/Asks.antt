@@ -1,9 +1,10 @@
 -- A request, row by row of the refusals; where the plan permits it, what is told of its initiator's row.
 use mathlib.Core.Path.{_≡_, refl, sym, _∙_}
-use mathlib.Core.List.{List}
+use mathlib.Core.List.{List, _++_}
 use mathlib.Core.Option.{Option, some}
 use mathlib.Core.Bool.{Bool, true, false, cond}
-use Prim.Native.Nat.{ℕ, _≤_, _<_}
+use Prim.Native.Nat.{ℕ, _*_, _≤_, _<_}
+use lib.ListN.{take, drop}
 use lib.Dec.{eqb, ltb}
 use borrow.Author.Tests.{lt-ltb, le-ltb}
 use Rattle.lists.specs.Search.{isSome}
@@ -11,8 +12,8 @@ use Rattle.lists.specs.Rows.{firstOf}
 use Rattle.lists.specs.Place.{atPlace}
 use Rattle.lists.specs.laws.Bools.{cond-cases}
 use Rattle.plan_rules.specs.Plan.{Plan}
-use Rattle.plan_rules.specs.Meaning.{isInitiator, initiators}
-use Rattle.plan_view.specs.View.{Timed}
+use Rattle.plan_rules.specs.Meaning.{isInitiator, initiators, leastSpan}
+use Rattle.plan_view.specs.View.{Timed, Owner, ownerOf}
 use Rattle.box_rules.specs.declared.Event.the-variants.{Request}
 use Rattle.box_rules.specs.declared.Answer.{Answer}
 use Rattle.box_rules.specs.declared.Answer.the-variants.{Refused}
@@ -24,16 +25,15 @@ use Rattle.box_rules.specs.Step.{step, accepts}
 use Rattle.box_rules.specs.laws.Fit.{FitSide}
 use Rattle.box_rules.specs.laws.Steps.{step-accepted}
 use Rattle.box_rules.specs.laws.Permitted.{permitted-short}
-use Rattle.initiators.specs.Run.{initiatorOf, sideOf, changed, rowsWith}
-use Rattle.initiators.specs.laws.RunSides.{initiator-at, on-side, runs-kept, runs-changed}
-use Rattle.asking.specs.Sides.{isFull, askedAnswer, askedSide}
+use Rattle.initiators.specs.Run.{rowOf, sideOf, changed, rowsWith}
+use Rattle.initiators.specs.laws.RunSides.{on-row, runs-kept, runs-changed}
+use Rattle.asking.specs.Sides.{Tried, isFull, askedAnswer, askedSide}
 use Rattle.initiators.specs.Memory.{Finds, Answers}
 use Rattle.initiators.specs.laws.Found.{Rowed, plan-by-row, is-initiator, its-row, no-initiator}
 use Rattle.initiators.specs.laws.Refused.{refuses}
 use Rattle.requests.specs.NoRow.{noRow}
 use Rattle.requests.specs.NotPermitted.{notPermitted}
 use Rattle.requests.proofs.no_row.Strangers.{refused-strange}
-use Rattle.asking.specs.Sides.{Tried}
 
 module _
     {b : Box}
@@ -70,10 +70,10 @@ module _
       unfolding refusal refusals firstOf noPlan
       other-kind h = refuses room b w (Request i t k n) 23 refl (rw (there, own, lt-ltb 1 k h)) run last (f .runs)
 
-      module _ (kind : k ≤ 1) (y : Bool) (tried : Tried spans aims row t n y) where
+      module _ (kind : k ≤ 1) (need : ℕ) (least : (p : Plan) (j u : ℕ) → need ≡ leastSpan p j u n) (y : Bool) (tried : Tried spans aims row t need y) where
         may : mayStart (thePlan b) ((thePlan b) .entries) i t n ≡ y
         unfolding thePlan
-        may = sym (tried (thePlan b) i (f .plan .sound) (f .plan .spans) (f .plan .aims) at)
+        may = sym (tried (thePlan b) i n (record { sound = f .plan .sound; spans = f .plan .spans; aims = f .plan .aims; row = at; need = least (thePlan b) i t }))
 
         pub barred : y ≡ false → (r : Answer) → r ≡ notPermitted n → Gives r run
         unfolding refusal refusals firstOf noPlan notPermitted
@@ -88,20 +88,23 @@ module _
               let short = permitted-short (thePlan b) (f .fit .sound) i t n (may ∙ permitted) in
               rw (there, own, le-ltb 1 k kind, le-ltb 4096 n short, may, permitted, h)
 
-          pub asks : (r : Answer) (run′ : List ℕ)
-              → ((m : ℕ → ℕ) (s : ℕ → Side) → m row ≡ i → ((j : ℕ) → FitSide (s j)) → run ≡ rowsWith m s → (r ≡ askedAnswer (s row)) × (run′ ≡ rowsWith m (changed row (askedSide t k n (s row)) s)))
-              → Gives r run′
+          -- the request's row, lent and back
+          pub asks : (r : Answer) (size : ℕ) (part : List ℕ) → size ≡ 12
+              → ((p : Plan) (s : Side) → FitSide s → need ≡ leastSpan p i t n → take size (drop (row * 12) run) ≡ rowOf (record { plan = p; initiator = i }) s
+              → (r ≡ askedAnswer s) × (part ≡ rowOf (record { plan = p; initiator = i }) (askedSide t k n s)))
+              → Gives r (take (row * 12) run ++ (part ++ drop size (drop (row * 12) run)))
           unfolding askedAnswer askedSide accepts
-          asks r run′ does =
+          asks r size part twelve does =
               go (isFull (b .side i)) refl
-              (on-side b run last (f .runs) i row at askedAnswer (askedSide t k n) r run′ (f .fit) (λ s. does (initiatorOf (thePlan b)) s (initiator-at (thePlan b) row i at)))
+              (on-row b run last (f .runs) i row at askedAnswer (askedSide t k n) r size part (f .fit) low twelve (λ s fit is. does (thePlan b) s fit (least (thePlan b) i t) is))
             where
               go : (z : Bool) → isFull (b .side i) ≡ z
-                  → (r ≡ askedAnswer (b .side i)) × (run′ ≡ rowsWith (initiatorOf (thePlan b)) (changed row (askedSide t k n (b .side i)) (sideOf (thePlan b) (b .side)))) → Gives r run′
+                  → (r ≡ askedAnswer (b .side i)) × (take (row * 12) run ++ (part ++ drop size (drop (row * 12) run)) ≡ rowsWith (ownerOf (thePlan b)) (changed row (askedSide t k n (b .side i)) (sideOf (thePlan b) (b .side))))
+                  → Gives r (take (row * 12) run ++ (part ++ drop size (drop (row * 12) run)))
               go true e h =
                   let (a, m) = rw (e, askedAnswer, askedSide) at h in
-                  rw a (refuses room b w (Request i t k n) 26 refl (last-row true e) run′ last (runs-kept b run last (f .runs) i row at run′ m))
+                  rw a (refuses room b w (Request i t k n) 26 refl (last-row true e) _ last (runs-kept b run last (f .runs) i row at _ m))
               go false e h =
                   let (a, m) = rw (e, askedAnswer, askedSide) at h in
                   rw (step-accepted room b w (Request i t k n) (last-row false e), a)
-                  (record { answer = refl; runs = runs-changed b run last (f .runs) i row at (join t k n) run′ m })
+                  (record { answer = refl; runs = runs-changed b run last (f .runs) i row at (join t k n) _ m })

@@ -31,7 +31,7 @@ returns-4 : tie.Need-returns-4
 returns-4 c =
     let d = c .before .before in
     let a = d .before .before .args in
-    (λ b t clock. refuses-none (a .room) (a .byte) clock b (sym (d .before .is-loaded .ensures (b .plan) t) ∙ not-false _ (d .if1 .left)) (c .before .if2 .left) (c .if3 .left), λ _. search needs)
+    (λ b t clock. refuses-none (a .room) (a .byte) clock b (sym (d .before .is-loaded .ensures (b .plan) t) ∙ not-false _ (d .if1 .left)) (c .before .if2 .left) (c .if3 .left), λ _. (search needs, omega arith))
 
 pub refuse-spec : {M : Type 1} → statement M
 refuse-spec = tie.close (tie.spec is-loaded-requires returns returns-2 returns-3 returns-4)

@@ -2,10 +2,10 @@
 use mathlib.Core.Path.{_≡_, refl, sym, ap, _∙_}
 use mathlib.Core.Logic.{_≢_}
 use mathlib.Core.List.{List, [], _∷_, flatMap}
-use Prim.Native.Nat.{ℕ, _+_, _/_, _%_, _≤_, _<_}
+use Prim.Native.Nat.{ℕ, _+_, _/_, _%_, _≤_}
 use native.Mathlib.Omega.{arith}
 use lib.ListN.{length, getD, set}
-use borrow.Author.Tests.{leb-false, ltb-false}
+use borrow.Author.Tests.{ltb-false}
 use Rattle.lists.specs.Rows.{testOf}
 use Rattle.lists.specs.Puts.{Puts}
 use Rattle.lists.specs.laws.Rows.{rise, no-row}
@@ -58,23 +58,18 @@ module _ {b : Box} {rows spans aims numbers run last : List ℕ} (f : Finds b ro
       unfolding refusal refusals rise testOf
       room = ltb-false (length before) 136 (no-row 29 (refusals (length before) b (TimeCode byte clock)) 0 refl (sym free))
 
-      small : byte < 64
-      unfolding refusal refusals rise testOf
-      small = leb-false 64 byte (no-row 21 (refusals (length before) b (TimeCode byte clock)) 0 refl (sym free))
-
       pub accepted : (run′ after : List ℕ) (k : ℕ) (x : Watchdog) → (run′ ≡ runOf (thePlan b) (ticked b byte .side)) × Puts before 0 (flatMap (recordBytes clock) (records b w byte clock)) after k
-          → x ≡ fed w clock → Does outcome clock (Recorded (k / 8 % 256)) x run′ (set last 0 (byte % 64 + 1)) before after
+          → x ≡ fed w clock → Does outcome clock (Recorded (k / 8 % 256)) x run′ (set last 0 (byte + 1)) before after
       unfolding accepts ticked thePlan lastOf recorded
       accepted run′ after k x (er, ps) ex =
           let few = records-few b w byte clock (f .fit .sound .eight) in
           let size = records-size clock rs in
           let (ek, eo) = put-front (ps .fitting (omega (arith, few, size, room))) (omega (arith, few, size, room)) in
           let count : k / 8 % 256 ≡ length rs = omega (arith, few, size, ek) in
-          let value : byte % 64 + 1 ≡ byte + 1 = omega (arith, small) in
           rw (step-accepted (length before) b w (TimeCode byte clock) (sym free)) (record {
             answers = record {
               answer = ap Recorded count;
-              runs = record { run = er; last = ap (λ (l : List ℕ). set l 0 (byte % 64 + 1)) (f .runs .last) ∙ ap (λ (n : ℕ). n ∷ []) value };
+              runs = record { run = er; last = ap (λ (l : List ℕ). set l 0 (byte + 1)) (f .runs .last) };
             };
             watchdog = ex;
             records = eo;

@@ -26,11 +26,11 @@ returns c =
     let d = c .before .before .before .before in
     let l = d .before .before in
     let a = l .before .before .before .before .before .args in
-    let o = c .before .before .put-full .ensures in (
-      λ clock i s small f is p e t.
-          visit-live clock i (a .v) p e s f (a .row .now) (d .live-word .result) is (sym (l .before .has-live .ensures i s f is) ∙ l .if1 .taken) (d .live-word .ensures i s f is)
-          (a .out .now) _ (a .at) _ (λ x. o .0 clock i x small),
-      omega (arith, o .1),
+    let put = c .before .before .put-full .ensures in (
+      λ o s small f is e t.
+          visit-live (a .clock) o (a .v) e s f (a .row .now) (d .live-word .result) is (sym (l .before .has-live .ensures o s f is) ∙ l .if1 .taken) (d .live-word .ensures o s f is)
+          (a .out .now) _ (a .at) _ (λ x. put .0 o x small),
+      omega (arith, put .1),
     )
 
 start-row-requires : tie.Need-start-row-requires
@@ -49,12 +49,13 @@ returns-2 : tie.Need-returns-2
 returns-2 c =
     let d = c .before .before .before .before in
     let m = d .before .before .before .start-row in
-    let a = d .before .before .before .before .before .before .before .before .before .before .args in
-    let o = c .before .before .put-full2 .ensures in (
-      λ clock i s small f is p e t.
-          let z = m .ensures i s f is p e t in
-          (z .1, visit-start clock i (a .v) p e s f (m .result) (z .0) (d .if2 .taken) (a .out .now) _ (a .at) _ (λ x. o .0 clock i x small)),
-      omega (arith, o .1),
+    let l = d .before .before .before .before .before in
+    let a = l .before .before .before .before .before .args in
+    let put = c .before .before .put-full2 .ensures in (
+      λ o s small f is e t.
+          let z = m .ensures o s f is (sym (l .before .has-live .ensures o s f is) ∙ l .if1 .left) e t in
+          (z .1, visit-start (a .clock) o (a .v) e s f (m .result) (z .0) (d .if2 .taken) (a .out .now) _ (a .at) _ (λ x. put .0 o x small)),
+      omega (arith, put .1),
     )
 
 same-length-5 : tie.Need-same-length-5
@@ -65,9 +66,10 @@ returns-3 c =
     let m = c .before .before .before .start-row in
     let l = c .before .before .before .before .before in
     let a = l .before .before .before .before .before .args in (
-      λ clock i s small f is p e t.
-          let z = m .ensures i s f is p e t in
-          (z .1, visit-nothing clock i (a .v) p e s f (m .result) (z .0) (c .if2 .left) (sym (l .before .has-live .ensures i s f is) ∙ l .if1 .left) (a .out .now) (a .at)),
+      λ o s small f is e t.
+          let free = sym (l .before .has-live .ensures o s f is) ∙ l .if1 .left in
+          let z = m .ensures o s f is free e t in
+          (z .1, visit-nothing (a .clock) o (a .v) e s f (m .result) (z .0) (c .if2 .left) free (a .out .now) (a .at)),
       omega arith,
     )
 

@@ -1,4 +1,5 @@
 -- `waiting` meets its contract. Assumes nothing.
+use mathlib.Core.Path.{refl}
 use Rattle.initiators.specs.laws.RowWords.{count-at}
 use borrow.Author.Needs.{needs}
 use Rattle.initiators.proofs.row.waiting.Statement.{statement}
@@ -8,7 +9,7 @@ shared-slice-read-result : tie.Need-shared-slice-read-result
 shared-slice-read-result c = search needs
 
 returns : tie.Need-returns
-returns c = λ i s f is. count-at i s f (c .before .args .row .now) is
+returns c = (refl, λ i s f is. count-at i s f (c .before .args .row .now) is)
 
 pub waiting-spec : {M : Type 1} → statement M
 waiting-spec = tie.close (tie.spec shared-slice-read-result returns)

@@ -1,4 +1,5 @@
 -- `request` meets its contract. Assumes nothing.
+use Prim.Native.Nat.{_+_, _-_, _*_}
 use native.Mathlib.Omega.{arith}
 use borrow.Author.Tests.{not-true, not-false}
 use Rattle.requests.proofs.request.Asks.{stranger, other-kind, barred, asks}
@@ -15,14 +16,17 @@ no-row-requires c κs = search needs
 returns : tie.Need-returns
 returns c =
     let r = c .before .before .row-of in
-    let a = c .before .before .before .args in
+    let a = c .before .before .before .before .args in
     λ b last f room w. stranger f room w (a .initiator) (a .target) (a .kind) (a .length) (r .result) (r .ensures) (c .before .if1 .taken) (c .no-row .result) (c .no-row .ensures)
 
 returns-2 : tie.Need-returns-2
 returns-2 c =
     let r = c .before .before .row-of in
-    let a = c .before .before .before .args in
+    let a = c .before .before .before .before .args in
     λ b last f room w. other-kind f room w (a .initiator) (a .target) (a .kind) (a .length) (r .result) (r .ensures) (omega arith) (c .if2 .taken)
+
+least-span-requires : tie.Need-least-span-requires
+least-span-requires c κs = search needs
 
 may-start-requires : tie.Need-may-start-requires
 may-start-requires c κs = search needs
@@ -33,23 +37,51 @@ not-permitted-requires c κs = search needs
 returns-3 : tie.Need-returns-3
 returns-3 c =
     let y = c .before .before .may-start in
-    let r = c .before .before .before .before .before .row-of in
-    let a = c .before .before .before .before .before .before .args in
+    let n = c .before .before .before .least-span in
+    let r = c .before .before .before .before .before .before .row-of in
+    let a = c .before .before .before .before .before .before .before .before .args in
     λ b last f room w.
-    barred f room w (a .initiator) (a .target) (a .kind) (a .length) (r .result) (r .ensures) (omega arith) (omega arith) (y .result) (y .ensures) (not-true _ (c .before .if3 .taken))
-    (c .not-permitted .result) (c .not-permitted .ensures)
+    barred f room w (a .initiator) (a .target) (a .kind) (a .length) (r .result) (r .ensures) (omega arith) (omega arith) (n .result) (n .ensures) (y .result) (y .ensures)
+    (not-true _ (c .before .if3 .taken)) (c .not-permitted .result) (c .not-permitted .ensures)
 
-ask-requires : tie.Need-ask-requires
-ask-requires c κs = search needs
+mul-ask-row : tie.Need-mul-ask-row
+mul-ask-row c = search needs
+
+mul-ask-row-2 : tie.Need-mul-ask-row-2
+mul-ask-row-2 c = search needs
+
+add-ask-row : tie.Need-add-ask-row
+add-ask-row c = search needs
+
+mul-ask-row-3 : tie.Need-mul-ask-row-3
+mul-ask-row-3 c = search needs
+
+sub-ask-row : tie.Need-sub-ask-row
+sub-ask-row c = search needs
+
+part-ask-row-start : tie.Need-part-ask-row-start
+part-ask-row-start c = search needs
+
+part-ask-row-end : tie.Need-part-ask-row-end
+part-ask-row-end c = search needs
+
+ask-row-requires : tie.Need-ask-row-requires
+ask-row-requires c κs = search needs
+
+same-length : tie.Need-same-length
+same-length c = search needs
 
 returns-4 : tie.Need-returns-4
 returns-4 c =
-    let y = c .before .before .before .may-start in
-    let r = c .before .before .before .before .before .before .row-of in
-    let a = c .before .before .before .before .before .before .before .args in
+    let m = c .before .before .ask-row in
+    let y = c .before .before .before .before .before .may-start in
+    let n = c .before .before .before .before .before .before .least-span in
+    let r = c .before .before .before .before .before .before .before .before .before .row-of in
+    let a = c .before .before .before .before .before .before .before .before .before .before .before .args in
+    let size = r .result * 12 + 12 - r .result * 12 in
     λ b last f room w.
-    asks f room w (a .initiator) (a .target) (a .kind) (a .length) (r .result) (r .ensures) (omega arith) (omega arith) (y .result) (y .ensures) (not-false _ (c .before .before .if3 .left))
-    (c .ask .result) (c .ask .last .0) (c .ask .ensures)
+    asks f room w (a .initiator) (a .target) (a .kind) (a .length) (r .result) (r .ensures) (omega arith) (omega arith) (n .result) (n .ensures) (y .result) (y .ensures)
+    (not-false _ (c .before .before .before .before .if3 .left)) (m .result) size (m .last .0) (omega arith) (m .ensures)
 
 pub request-spec : {M : Type 1} → statement M
 request-spec =
@@ -59,8 +91,17 @@ request-spec =
     no-row-requires
     returns
     returns-2
+    least-span-requires
     may-start-requires
     not-permitted-requires
     returns-3
-    ask-requires
+    mul-ask-row
+    mul-ask-row-2
+    add-ask-row
+    mul-ask-row-3
+    sub-ask-row
+    part-ask-row-start
+    part-ask-row-end
+    ask-row-requires
+    same-length
     returns-4)

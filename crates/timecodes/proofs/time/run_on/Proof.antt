@@ -24,14 +24,14 @@ report-late-requires c κs =
     let u = s .before .before .before .before in
     let w = u .put-watchdog .ensures .1 (omega arith) in
     let q = s .put-sequence .ensures .1 (omega (arith, w)) in
-    omega (arith, w, q)
+    (search needs, omega (arith, w, q))
 
 visit-all-requires : tie.Need-visit-all-requires
 visit-all-requires c κs =
     let r = c .before .before .before .before .before in
     let s = r .before .before .before .before .before in
     let w = s .before .before .before .before .put-watchdog .ensures .1 (omega arith) in
-    omega (arith, w, s .put-sequence .ensures .2 (c .before .before .if1 .taken), r .report-late .ensures .1)
+    (search needs, omega (arith, w, s .put-sequence .ensures .2 (c .before .before .if1 .taken), r .report-late .ensures .1))
 
 same-length : tie.Need-same-length
 same-length c = search needs
@@ -46,12 +46,12 @@ returns c =
     let q = u .before .before .in-sequence in
     let a = u .before .before .before .before .args in
     λ b rows numbers f.
-    let z = r .report-late .ensures .0 (a .clock) (thePlan b) (b .side) (f .fit .sound) (f .fit .sides) (f .runs .run) in
+    let z = r .report-late .ensures .0 (thePlan b) (b .side) (f .fit .sound) (f .fit .sides) (f .runs .run) in
     let y =
-    c .before .before .visit-all .ensures (a .clock) (thePlan b) (λ i. aged (q .result) (b .side i)) (f .fit .sound) (spans-held f) (aims-held f)
+    c .before .before .visit-all .ensures (thePlan b) (λ i. aged (q .result) (b .side i)) (f .fit .sound) (spans-held f) (aims-held f)
     (λ i. aged-fit (q .result) (b .side i) (f .fit .sides i)) (z .0)
     in
-    ran-in b (a .w) (a .byte) (a .clock) (q .result) (q .ensures (b .last) (last-told f)) (u .put-watchdog .ensures .0) (s .put-sequence .ensures .0 (a .clock)) (z .1) (d .if1 .taken) _ (y .0) _ _ (y .1)
+    ran-in b (a .w) (a .byte) (a .clock) (q .result) (q .ensures (b .last) (last-told f)) (u .put-watchdog .ensures .0) (s .put-sequence .ensures .0) (z .1) (d .if1 .taken) _ (y .0) _ _ (y .1)
 
 same-length-2 : tie.Need-same-length-2
 same-length-2 c = search needs
@@ -65,8 +65,8 @@ returns-2 c =
     let q = u .before .before .in-sequence in
     let a = u .before .before .before .before .args in
     λ b rows numbers f.
-    let z = r .report-late .ensures .0 (a .clock) (thePlan b) (b .side) (f .fit .sound) (f .fit .sides) (f .runs .run) in
-    ran-out b (a .w) (a .byte) (a .clock) (q .result) (q .ensures (b .last) (last-told f)) (u .put-watchdog .ensures .0) (s .put-sequence .ensures .0 (a .clock)) (z .1) (c .if1 .left) _ (z .0)
+    let z = r .report-late .ensures .0 (thePlan b) (b .side) (f .fit .sound) (f .fit .sides) (f .runs .run) in
+    ran-out b (a .w) (a .byte) (a .clock) (q .result) (q .ensures (b .last) (last-told f)) (u .put-watchdog .ensures .0) (s .put-sequence .ensures .0) (z .1) (c .if1 .left) _ (z .0)
 
 pub run-on-spec : {M : Type 1} → statement M
 run-on-spec =

@@ -1,5 +1,6 @@
 -- `time_code` meets its contract. Assumes nothing.
 use mathlib.Core.Path.{sym, _∙_}
+use native.Mathlib.Omega.{arith}
 use Rattle.timecodes.proofs.time.Leaves.{handed, refused, accepted}
 use borrow.Author.Needs.{needs}
 use Rattle.timecodes.proofs.time.time_code.Statement.{statement}
@@ -18,16 +19,16 @@ element-copy-out-run-on : tie.Need-element-copy-out-run-on
 element-copy-out-run-on c = search needs
 
 run-on-requires : tie.Need-run-on-requires
-run-on-requires c κs = let d = c .before .before .before in d .before .refuse .ensures .1 (d .if1 .left)
+run-on-requires c κs = let d = c .before .before .before in d .before .refuse .ensures .1 (d .if1 .left) .0
 
 add-last : tie.Need-add-last
-add-last c = search needs
+add-last c = let d = c .before .before .before .before .before .before in omega (arith, d .before .refuse .ensures .1 (d .if1 .left) .1)
 
 element-write-last : tie.Need-element-write-last
 element-write-last c = search needs
 
-cast-t21 : tie.Need-cast-t21
-cast-t21 c = search needs
+cast-t18 : tie.Need-cast-t18
+cast-t18 c = search needs
 
 fed-with-requires : tie.Need-fed-with-requires
 fed-with-requires c κs = search needs
@@ -54,7 +55,7 @@ time-code-spec =
     run-on-requires
     add-last
     element-write-last
-    cast-t21
+    cast-t18
     fed-with-requires
     same-length
     returns-2)
