@@ -2,7 +2,7 @@
 use Prim.Native.Nat.{ℕ, _<_}
 use lib.ListN.{length}
 use Rattle.lists.specs.Place.{without}
-use Rattle.box_rules.specs.State.{Side}
+use Rattle.box_rules.specs.State.{Side, withLine}
 
 -- "at most eight wait": one more may join
 abbrev pub HasRoom : Side → Type 0
@@ -10,4 +10,4 @@ HasRoom s = length (s .line) < 8
 
 -- the side once the request at place k has left the line
 unfoldable pub leaves : ℕ → Side → Side
-leaves k s = record { next = s .next; line = without k (s .line); live = s .live }
+leaves k s = withLine (without k (s .line)) s

@@ -1,6 +1,7 @@
 // A request as one word of run memory.
 ghost use mathlib.Core.Path.{_≡_};
 ghost use Prim.Native.Nat.{_+_, _*_, _/_, _%_};
+ghost use Rattle.box_rules.specs.State.{request};
 ghost use Rattle.initiators.specs.Run as run;
 
 // Two bytes in the other order: a record has the high byte first, a word the low one.
@@ -19,7 +20,7 @@ fn reversed(n: u32) -> u32
 
 // A request as one word: its own kind, then what its records say of it.
 pub fn word_of(initiator: u8, target: u8, kind: u8, length: u16, number: u16) -> u64
-    ensures { λ r. ⌜ r ≡ run.wordOf initiator (record { target = target; kind = kind; length = length; number = number }) ⌝ }
+    ensures { λ r. ⌜ r ≡ run.wordOf initiator (request target kind length number) ⌝ }
 {
     let last = reversed(number as u32 * 65_536 + length as u32) as u64;
     (kind as u64) * 128 + (initiator as u64) * 256 + (target as u64) * 65_536 + last * 4_294_967_296
