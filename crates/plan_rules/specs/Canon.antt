@@ -25,7 +25,7 @@ unfoldable pub canonical : Plan → Plan
 canonical p =
     withDevices (inOrder (λ (d : Device). d .num) (p .devices))
     (withLinks (map smallFirst (inOrder (λ (l : Link). l .num) (p .links)))
-    (withPaths (inOrder (λ (x : Route). x .initiator) (inOrder (λ (x : Route). x .target) (p .paths)))
+    (withPaths (inOrder (λ (x : Route). x .start) (inOrder (λ (x : Route). x .end) (p .paths)))
     (withEntries (map withRising (inOrder (λ (e : Entry). e .initiator) (inOrder (λ (e : Entry). e .slot) (p .entries)))) p)))
 
 -- the items in order of tag, and the bytes of their fields

@@ -25,10 +25,11 @@ pub record Link : Type 0 where
   pub one : ℕ
   pub other : ℕ
 
--- a path: its links in order. (Path is the name of a type of the library.)
+-- a way over links in order, from the device that it is walked from to the one that it leads to: a path starts at its initiator and
+-- ends at its target. (Path is the name of a type of the library.)
 pub record Route : Type 0 where
-  pub initiator : ℕ
-  pub target : ℕ
+  pub start : ℕ
+  pub end : ℕ
   pub links : List ℕ
 
 pub record Entry : Type 0 where

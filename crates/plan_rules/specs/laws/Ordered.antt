@@ -103,7 +103,7 @@ module _ (p : Plan) (good : Good p) where
           fine-item (plusPaths p xs) (path x) m
           (record { devices = λ _. begins-self (p .devices); links = λ _. begins-self (p .links); paths = λ h. absurd (omega arith) })
           (given-path (plusPaths p xs) x ∙ once-before samePathEnds xs x (p .paths) b (good .paths))
-          (few-before (plusPaths p xs) p x ((route-range x (good .ranges (path x) m)) .initiator) b (good .eight) (good .most))
+          (few-before (plusPaths p xs) p x ((route-range x (good .ranges (path x) m)) .start) b (good .eight) (good .most))
 
   entry-stage : (before : ℕ) → before ≤ 3 → Led (plusEntries p []) before (map entry (p .entries)) (plusEntries p (p .entries)) 4
   unfolding tagFor grow comesOnce tagOf tags find tooMany
