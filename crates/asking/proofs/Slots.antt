@@ -19,7 +19,7 @@ use Rattle.plan_rules.specs.Meaning.{entryAt, permits}
 use Rattle.plan_rules.specs.laws.Sound.{Sound}
 use Rattle.plan_rules.specs.laws.Runs.{entry-at, found-at, permits-target}
 use Rattle.plan_memory.specs.Memory.{ofRow, spansOf, aimOf, aimsOf}
-use Rattle.plan_view.specs.View.{Owner}
+use Rattle.plan_view.specs.View.{owner}
 use Rattle.box_rules.specs.Refuse.{mayStart}
 use Rattle.box_rules.specs.laws.Permitted.{permitted-by}
 use Rattle.asking.specs.Sides.{Needs, Tried, BarredAt, Barred}
@@ -49,7 +49,7 @@ module _ (spans aims : List ℕ) (row t need : ℕ) where
     module _ (p : Plan) (i n : ℕ) (h : Needs spans aims row t need p i n) where
       some-here : (e : Entry) → entryAt (p .entries) i slot ≡ some e → x ≡ permits p e t n
       some-here e is =
-          let o : Owner = record { plan = p; initiator = i } in
+          let o = owner p i in
           let tells = (entry-told p (h .sound) row i (h .row) slot span (spanned p (h .sound) (h .spans)) e is targets (aimed p (h .sound) (h .aims))) .1 in
           told ∙ ap (λ (k : ℕ). member t targets && leb k span) (h .need) ∙ permits-told o targets span e tells t n
 

@@ -5,6 +5,7 @@ ghost use mathlib.Core.List.{List};
 ghost use Prim.Native.Nat.{ℕ};
 ghost use Rattle.plan_rules.specs.Plan.{Plan};
 ghost use Rattle.plan_rules.specs.Meaning.{leastSpan};
+ghost use Rattle.plan_view.specs.View.{owner};
 ghost use Rattle.box_rules.specs.State.{Side};
 ghost use Rattle.box_rules.specs.laws.Fit.{FitSide};
 ghost use Rattle.initiators.specs.Run.{rowOf};
@@ -76,8 +77,8 @@ pub fn ask_row(
     length: u16,
 ) -> Answer
     requires { ⌜ IsRow (now row) ⌝ }
-    ensures { λ r. ⌜ ((p : Plan) (s : Side) → FitSide s → need ≡ leastSpan p initiator target length → now (row .entry) ≡ rowOf (record { plan = p; initiator = initiator }) s →
-        (r ≡ askedAnswer s) × (now (row .exit) ≡ rowOf (record { plan = p; initiator = initiator }) (askedSide target kind length s))) ⌝ }
+    ensures { λ r. ⌜ ((p : Plan) (s : Side) → FitSide s → need ≡ leastSpan p initiator target length → now (row .entry) ≡ rowOf (owner p initiator) s →
+        (r ≡ askedAnswer s) × (now (row .exit) ≡ rowOf (owner p initiator) (askedSide target kind length s))) ⌝ }
 {
     if 8 <= waiting(row) {
         return Answer::Refused { number: 26 };

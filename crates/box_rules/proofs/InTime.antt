@@ -184,7 +184,7 @@ requests-start-in-time ok b reached room w i t k n h fs next enough = go (allowe
     place = length ((b .side i) .line)
 
     r : state.Request
-    r = record { target = t; kind = k; length = n; number = (b .side i) .next }
+    r = state.request t k n ((b .side i) .next)
 
     go : (e : Entry) × List·Memᴰ e ((thePlan b) .entries) × (e .initiator ≡ i) × (permits (thePlan b) e t n ≡ true) → hasStarted i place joined fs ≡ true
     go (e, m, own, fit) =

@@ -109,7 +109,7 @@ unfoldable pub JoinsAsAsked : Type 0
 JoinsAsAsked =
     (b : Box) (room : ℕ) (w : Watchdog) (i t k n : ℕ) → refusal room b (Request i t k n) ≡ 0 →
     atPlace (length ((b .side i) .line)) (((step room b w (Request i t k n)) .box .side i) .line)
-    ≡ some (record { target = t; kind = k; length = n; number = (b .side i) .next })
+    ≡ some (state.request t k n ((b .side i) .next))
 
 -- Demand 3, entries. "Nobody starts outside its entries": a start is at a time-code in sequence, where an entry of the initiator
 -- stands at the value and permits target and length.

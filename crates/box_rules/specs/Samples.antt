@@ -26,7 +26,7 @@ unfoldable pub joins : ℕ → ℕ → ℕ → Item
 joins n a b = link (record { num = n; one = a; other = b })
 
 unfoldable pub route : ℕ → ℕ → List ℕ → Item
-route i t ls = path (record { initiator = i; target = t; links = ls })
+route i t ls = path (record { start = i; end = t; links = ls })
 
 unfoldable pub at : ℕ → ℕ → ℕ → List ℕ → Item
 at i s n ts = entry (record { initiator = i; slot = s; span = n; targets = ts })

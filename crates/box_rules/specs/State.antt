@@ -17,11 +17,18 @@ pub record Request : Type 0 where
   pub length : ℕ
   pub number : ℕ
 
+-- a request as it joins a line
+abbrev pub request : (target kind length number : ℕ) → Request
+request t k n m = record { target = t; kind = k; length = n; number = m }
+
 -- a live transaction: the request, the span of the entry that it started at, and the accepted time-codes since
 pub record Live : Type 0 where
   pub request : Request
   pub span : ℕ
   pub age : ℕ
+
+abbrev pub withAge : ℕ → Live → Live
+withAge n l = record { request = l .request; span = l .span; age = n }
 
 -- one initiator's side: its next transaction number, its line (oldest first), its live transaction
 pub record Side : Type 0 where
@@ -29,11 +36,28 @@ pub record Side : Type 0 where
   pub line : List Request
   pub live : Option Live
 
+-- the side with one field replaced
+abbrev pub withNext : ℕ → Side → Side
+withNext n s = record { next = n; line = s .line; live = s .live }
+
+abbrev pub withLine : List Request → Side → Side
+withLine rs s = record { next = s .next; line = rs; live = s .live }
+
+abbrev pub withLive : Option Live → Side → Side
+withLive l s = record { next = s .next; line = s .line; live = l }
+
 -- the plan; the byte of the last accepted time-code; each initiator's side
 pub record Box : Type 0 where
   pub plan : Option Plan
   pub last : Option ℕ
   pub side : ℕ → Side
+
+-- the box with one field replaced
+abbrev pub withLast : Option ℕ → Box → Box
+withLast l b = record { plan = b .plan; last = l; side = b .side }
+
+abbrev pub withSides : (ℕ → Side) → Box → Box
+withSides f b = record { plan = b .plan; last = b .last; side = f }
 
 -- "nothing waiting or live, transaction numbers from 0"
 unfoldable pub idle : Side

@@ -10,7 +10,7 @@ use Rattle.box_rules.specs.declared.Event.the-variants.{TimeCode, Reques
 use Rattle.box_rules.specs.declared.Answer.{Answer}
 use Rattle.box_rules.specs.declared.Answer.the-variants.{Refused, Recorded, Joined, Ended, Told}
 use Rattle.box_rules.specs.declared.Watchdog.{Watchdog}
-use Rattle.box_rules.specs.State.{Box, Side, Live, thePlan}
+use Rattle.box_rules.specs.State.{Box, withLast, withSides, Side, Live, thePlan}
 use Rattle.box_rules.specs.Refuse.{refusal}
 use Rattle.box_rules.specs.Watch.{isOverdue, told, fed}
 use Rattle.box_rules.specs.Turn.{join, finish, class, inSequence, turned}
@@ -24,15 +24,11 @@ pub record Outcome : Type 0 where
 
 -- one side changed, the others as they were
 unfoldable pub withSide : Box → ℕ → (Side → Side) → Box
-withSide b i f = record { plan = b .plan; last = b .last; side = λ j. cond (eqb j i) (f (b .side j)) (b .side j) }
+withSide b i f = withSides (λ j. cond (eqb j i) (f (b .side j)) (b .side j)) b
 
 -- every side at a time-code
 unfoldable pub ticked : Box → ℕ → Box
-ticked b byte = record {
-  plan = b .plan;
-  last = some byte;
-  side = λ i. turned (thePlan b) (inSequence (b .last) byte) byte i (b .side i);
-}
+ticked b byte = withLast (some byte) (withSides (λ i. turned (thePlan b) (inSequence (b .last) byte) byte i (b .side i)) b)
 
 -- "hands on the status byte and its class"
 unfoldable pub endedBy : ℕ → Option Live → Answer

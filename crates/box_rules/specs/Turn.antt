@@ -8,18 +8,18 @@ use Rattle.lists.specs.Search.{isSome}
 use Rattle.lists.specs.Place.{Found, first, without}
 use Rattle.plan_rules.specs.Plan.{Entry, Plan}
 use Rattle.plan_rules.specs.Meaning.{entryAt, permits}
-use Rattle.box_rules.specs.State.{Side, Live, Request}
+use Rattle.box_rules.specs.State.{Side, withNext, withLine, withLive, Live, withAge, Request, request}
 
 -- "Joins its initiator's line and gets that initiator's next 16-bit transaction number; after 65,535 comes 0."
 unfoldable pub asked : ℕ → ℕ → ℕ → Side → Request
-asked t k n s = record { target = t; kind = k; length = n; number = s .next }
+asked t k n s = request t k n (s .next)
 
 unfoldable pub join : ℕ → ℕ → ℕ → Side → Side
-join t k n s = record { next = (s .next + 1) % 65_536; line = s .line ++ (asked t k n s ∷ []); live = s .live }
+join t k n s = withNext ((s .next + 1) % 65_536) (withLine (s .line ++ (asked t k n s ∷ [])) s)
 
 -- "Ends the live transaction"
 unfoldable pub finish : Side → Side
-finish s = record { next = s .next; line = s .line; live = none }
+finish s = withLive none s
 
 -- "0 success, 1 to 7 and 9 to 12 errors, 8 and 13 to 255 reserved"
 unfoldable pub class : ℕ → ℕ
@@ -40,7 +40,7 @@ isLate true l = leb (l .span) (l .age + 1)
 isLate false l = true
 
 unfoldable pub older : Live → Live
-older l = record { request = l .request; span = l .span; age = l .age + 1 }
+older l = withAge (l .age + 1) l
 
 -- what is live once lateness has been reported
 unfoldable pub survives : Bool → Option Live → Option Live
@@ -48,7 +48,7 @@ survives q none = none
 survives q (some l) = cond (isLate q l) none (some (older l))
 
 unfoldable pub aged : Bool → Side → Side
-aged q s = record { next = s .next; line = s .line; live = survives q (s .live) }
+aged q s = withLive (survives q (s .live)) s
 
 -- "only in sequence … where an entry stands at v": the entry of initiator i that a time-code visits
 unfoldable pub visited : Plan → Bool → ℕ → ℕ → Option Entry
@@ -77,7 +77,7 @@ fresh x = record { request = x .found .what; span = x .entry .span; age = 0 }
 
 unfoldable pub begun : Side → Option Start → Side
 begun s none = s
-begun s (some x) = record { next = s .next; line = without (x .found .place) (s .line); live = some (fresh x) }
+begun s (some x) = withLine (without (x .found .place) (s .line)) (withLive (some (fresh x)) s)
 
 -- one side at a time-code with this byte: first lateness, then the start
 unfoldable pub startOf : Plan → Bool → ℕ → ℕ → Side → Option Start

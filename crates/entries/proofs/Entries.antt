@@ -163,10 +163,10 @@ path-nodes : (p : Plan) → Fair p → (i t : ℕ) → hasPath p i t ≡ true �
 unfolding hasPath leadsFrom notGiven
 path-nodes p f i t h =
     let (y, k, e) = any-elim (leadsFrom i t) (p .paths) h in
-    let (a, b) = both-true (eqb i (y .initiator)) (eqb t (y .target)) e in
-    let (c, _) = both-true (isNode p (y .initiator) && isNode p (y .target)) (all (isLink p) (y .links)) (not-false _ (f .known (path y) (path-in p y k))) in
-    let (d, g) = both-true (isNode p (y .initiator)) (isNode p (y .target)) c in
-    (ap (isNode p) (eqb-true i (y .initiator) a) ∙ d, ap (isNode p) (eqb-true t (y .target) b) ∙ g)
+    let (a, b) = both-true (eqb i (y .start)) (eqb t (y .end)) e in
+    let (c, _) = both-true (isNode p (y .start) && isNode p (y .end)) (all (isLink p) (y .links)) (not-false _ (f .known (path y) (path-in p y k))) in
+    let (d, g) = both-true (isNode p (y .start)) (isNode p (y .end)) c in
+    (ap (isNode p) (eqb-true i (y .start) a) ∙ d, ap (isNode p) (eqb-true t (y .end) b) ∙ g)
 
 all-nodes : (p : Plan) → Fair p → (i : ℕ) (ts : List ℕ) → 0 < length ts → all (hasPath p i) ts ≡ true → isNode p i && all (isNode p) ts ≡ true
 unfolding all

@@ -8,7 +8,7 @@ use lib.Seq.{set-append-left, take-at, drop-at}
 use Rattle.lists.specs.Place.{without}
 use Rattle.lists.specs.Cells.{padded}
 use Rattle.lists.specs.laws.Lines.{padded-join, padded-leave, length-without, map-without}
-use Rattle.box_rules.specs.State.{Side}
+use Rattle.box_rules.specs.State.{request, Side}
 use Rattle.box_rules.specs.Turn.{asked, join}
 use Rattle.box_rules.specs.laws.Fit.{FitSide}
 use Rattle.initiators.specs.Run.{wordOf, liveWord, liveTime, rowOf}
@@ -49,7 +49,7 @@ module _ (m : Owner) (s : Side) (f : FitSide s) (row : List ℕ) (is : row ≡ r
   number-at = omega (arith, next-at m s f row is, f .next)
 
   -- the word and the next number as the code has them
-  pub joins : (t k n w i : ℕ) → length (s .line) < 8 → w ≡ wordOf m (record { target = t; kind = k; length = n; number = getD row 0 0 % 65_536 })
+  pub joins : (t k n w i : ℕ) → length (s .line) < 8 → w ≡ wordOf m (request t k n (getD row 0 0 % 65_536))
       → i ≡ (getD row 0 0 % 65_536 + 1) % 65_536
       → (getD row 0 0 % 65_536 ≡ s .next) × (set (set (set row (getD row 1 0 + 2) w) 1 (getD row 1 0 + 1)) 0 i ≡ rowOf m (join t k n s))
   unfolding asked

@@ -1,8 +1,8 @@
 -- What the functions on an initiator's line do to its side beside a request.
 use Prim.Native.Nat.{ℕ}
 use Rattle.lists.specs.Place.{without}
-use Rattle.box_rules.specs.State.{Side}
+use Rattle.box_rules.specs.State.{Side, withLine}
 
 -- the side once the request at place k has left the line
 unfoldable pub leaves : ℕ → Side → Side
-leaves k s = record { next = s .next; line = without k (s .line); live = s .live }
+leaves k s = withLine (without k (s .line)) s

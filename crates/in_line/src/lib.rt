@@ -12,7 +12,7 @@ ghost use Rattle.plan_rules.specs.Meaning.{leastSpan};
 ghost use Rattle.box_rules.specs.State.{Side, Request};
 ghost use Rattle.box_rules.specs.Turn.{join, allows};
 ghost use Rattle.box_rules.specs.laws.Fit.{FitSide, FitRequest};
-ghost use Rattle.plan_view.specs.View.{placeOr, Owner, Tells};
+ghost use Rattle.plan_view.specs.View.{placeOr, Owner, Tells, owner};
 ghost use Rattle.initiators.specs.Run.{rowOf, wordOf};
 ghost use Rattle.initiators.specs.Row.{IsRow};
 ghost use Rattle.in_line.specs.Line.{leaves};
@@ -31,8 +31,8 @@ fn next_number(number: u16) -> u16
 // "Joins its initiator's line and gets that initiator's next 16-bit transaction number": a request that needs so long a span
 pub fn join_row(row: &mut [u64], initiator: u8, target: u8, kind: u8, need: u8, length: u16) -> u16
     requires { ⌜ IsRow (now row) × (getD (now row) 1 0 < 8) ⌝ }
-    ensures { λ r. ⌜ ((p : Plan) (s : Side) → FitSide s → need ≡ leastSpan p initiator target length → now (row .entry) ≡ rowOf (record { plan = p; initiator = initiator }) s →
-        (r ≡ s .next) × (now (row .exit) ≡ rowOf (record { plan = p; initiator = initiator }) (join target kind length s))) ⌝ }
+    ensures { λ r. ⌜ ((p : Plan) (s : Side) → FitSide s → need ≡ leastSpan p initiator target length → now (row .entry) ≡ rowOf (owner p initiator) s →
+        (r ≡ s .next) × (now (row .exit) ≡ rowOf (owner p initiator) (join target kind length s))) ⌝ }
 {
     let n = row[1] as usize;
     let number = (row[0] % 65536) as u16;

@@ -4,7 +4,7 @@ use Prim.Native.Nat.{ℕ}
 use mathlib.Core.List.{List}
 use mathlib.Core.Option.{Option, none, some}
 use lib.ListN.{length}
-use Rattle.box_rules.specs.State.{Request, Live}
+use Rattle.box_rules.specs.State.{Request, request, Live}
 
 abbrev pub IsRow : List ℕ → Type 0
 IsRow row = length row ≡ 12
@@ -14,5 +14,5 @@ IsRun run = length run ≡ 96
 
 -- the live transaction's request, all of it 0 where there is none
 unfoldable pub liveRequest : Option Live → Request
-liveRequest none = record { target = 0; kind = 0; length = 0; number = 0 }
+liveRequest none = request 0 0 0 0
 liveRequest (some l) = l .request

@@ -3,6 +3,8 @@ ghost use mathlib.Core.Path.{_≡_};
 ghost use Prim.Native.Nat.{_+_, _*_, _/_, _%_};
 ghost use Rattle.plan_rules.specs.Plan.{Plan};
 ghost use Rattle.plan_rules.specs.Meaning.{leastSpan};
+ghost use Rattle.box_rules.specs.State.{request};
+ghost use Rattle.plan_view.specs.View.{owner};
 ghost use Rattle.initiators.specs.Run as run;
 
 // Two bytes in the other order: a record has the high byte first, a word the low one.
@@ -22,7 +24,7 @@ fn reversed(n: u32) -> u32
 // A request as one word: its own kind, then what its records say of it, and between the least span that it fits.
 pub fn word_of(initiator: u8, target: u8, kind: u8, need: u8, length: u16, number: u16) -> u64
     ensures { λ r. ⌜ ((p : Plan) → need ≡ leastSpan p initiator target length →
-        r ≡ run.wordOf (record { plan = p; initiator = initiator }) (record { target = target; kind = kind; length = length; number = number })) ⌝ }
+        r ≡ run.wordOf (owner p initiator) (request target kind length number)) ⌝ }
 {
     let last = reversed(number as u32 * 65_536 + length as u32) as u64;
     let first = (kind as u64) * 128 + (initiator as u64) * 256 + (target as u64) * 65_536;

@@ -23,7 +23,7 @@ use Rattle.plan_rules.specs.Plan.{nth, Route, Plan}
 use Rattle.plan_rules.specs.Meaning.{leadsFrom}
 use Rattle.plan_rules.specs.Good.{Good, samePathEnds}
 use Rattle.plan_memory.specs.Memory.{pathsInOrder, pathsOf, numbersWith}
-use Rattle.plan_memory.specs.laws.PathRows.{path-order, to-order, path-at, initiator-byte, target-byte, count-byte, link-bytes}
+use Rattle.plan_memory.specs.laws.PathRows.{path-order, to-order, path-at, start-byte, end-byte, count-byte, link-bytes}
 use Rattle.plan_view.specs.View.{placeOr}
 use Rattle.path_view.specs.View.{pathPlace, linksBetween}
 
@@ -42,7 +42,7 @@ counted size p good numbers is = rw is (shuffled-length (path-order p (good .len
 leads-told : (p : Plan) → Good p → (paths : List ℕ) → paths ≡ pathsOf p → (i t k : ℕ) (x : Route) → atPlace k (pathsInOrder p) ≡ some x → leadsAt paths i t k ≡ leadsFrom i t x
 unfolding leadsFrom
 leads-told p good paths is i t k x at =
-    rw (is, initiator-byte p (good .lengths) (good .ranges) k x at, target-byte p (good .lengths) (good .ranges) k x at)
+    rw (is, start-byte p (good .lengths) (good .ranges) k x at, end-byte p (good .lengths) (good .ranges) k x at)
 
 module _ (paths : List ℕ) (i t : ℕ) where
   pub seek-begin : Sought paths i t 0
@@ -79,7 +79,7 @@ module _ (p : Plan) (good : Good p) (i t : ℕ) where
   unfolding leadsFrom samePathEnds
   path-found f h =
       let (at, e) = first-some (leadsFrom i t) (pathsInOrder p) f h in
-      find-one (leadsFrom i t) (p .paths) (f .what) (one-pair (λ (x : Route). x .initiator) (λ (x : Route). x .target) (p .paths) (good .paths) i t)
+      find-one (leadsFrom i t) (p .paths) (f .what) (one-pair (λ (x : Route). x .start) (λ (x : Route). x .end) (p .paths) (good .paths) i t)
       (path-at p (good .lengths) (good .ranges) (f .place) (f .what) at) e
 
   no-path : first (leadsFrom i t) (pathsInOrder p) ≡ none → (o : Option Route) → find (leadsFrom i t) (p .paths) ≡ o → o ≡ none

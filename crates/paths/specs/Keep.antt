@@ -10,14 +10,14 @@ use Rattle.path_places.specs.Places.{ownRow, withRow, withCount}
 
 -- the path, from its numbers
 abbrev pub route : ℕ → ℕ → List ℕ → Route
-route i t ls = record { initiator = i; target = t; links = ls }
+route i t ls = record { start = i; end = t; links = ls }
 
 -- with the path: its target in the reach of its row, its eleven bytes at the place m, one path more
 unfoldable pub keptReach : List ℕ → List ℕ → ℕ → Route → List ℕ
 keptReach rows reach count x =
-    let r = ownRow rows count (x .initiator) in
-    let own = withRow rows count (x .initiator) 0 reach in
-    set own r (packed (added (x .target) (nth own r)))
+    let r = ownRow rows count (x .start) in
+    let own = withRow rows count (x .start) 0 reach in
+    set own r (packed (added (x .end) (nth own r)))
 
 unfoldable pub keptPaths : List ℕ → ℕ → ℕ → Route → List ℕ
 keptPaths paths count m x = putIn (m * 11) (count * 11) (pathRow x) paths

@@ -42,10 +42,10 @@ reachOf p = cells 8 (λ (r : ℕ). ofRow p r (λ (i : ℕ). packed (hasPath p i)
 
 -- `paths`: eleven bytes for each path, in the order of writing out: initiator, target, number of links, eight places for the links
 unfoldable pub pathRow : Route → List ℕ
-pathRow x = x .initiator ∷ x .target ∷ length (x .links) ∷ padded 8 0 (x .links)
+pathRow x = x .start ∷ x .end ∷ length (x .links) ∷ padded 8 0 (x .links)
 
 unfoldable pub pathsInOrder : Plan → List Route
-pathsInOrder p = inOrder (λ (x : Route). x .initiator) (inOrder (λ (x : Route). x .target) (p .paths))
+pathsInOrder p = inOrder (λ (x : Route). x .start) (inOrder (λ (x : Route). x .end) (p .paths))
 
 unfoldable pub pathsOf : Plan → List ℕ
 pathsOf p = padded 1408 0 (flatMap pathRow (pathsInOrder p))

@@ -23,7 +23,7 @@ abbrev pub linkItem : ℕ → ℕ → ℕ → Item
 linkItem n a b = link (record { num = n; one = a; other = b })
 
 abbrev pub pathItem : ℕ → ℕ → List ℕ → Item
-pathItem i t ls = path (record { initiator = i; target = t; links = ls })
+pathItem i t ls = path (record { start = i; end = t; links = ls })
 
 abbrev pub entryItem : ℕ → ℕ → ℕ → List ℕ → Item
 entryItem i s n ts = entry (record { initiator = i; slot = s; span = n; targets = ts })

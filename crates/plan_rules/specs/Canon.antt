@@ -5,7 +5,7 @@ use Prim.Native.Nat.{ℕ, min, max}
 use mathlib.Core.List.{List, _++_, map, flatMap}
 use Rattle.lists.specs.Search.{keep, isIn, below64}
 use Rattle.lists.specs.Order.{inOrder, Shuffled}
-use Rattle.plan_rules.specs.Plan.{Device, Link, Route, Entry, Plan, blank, Item, device, link, path, entry, timing}
+use Rattle.plan_rules.specs.Plan.{Device, Link, Route, Entry, withTargets, Plan, blank, withDevices, withLinks, withPaths, withEntries, Item, device, link, path, entry, timing}
 use Rattle.plan_rules.specs.Fields.{fieldFor}
 use Rattle.plan_rules.specs.Judge.{plan, fault, readFile}
 
@@ -18,17 +18,15 @@ unfoldable pub rising : List ℕ → List ℕ
 rising ts = keep (λ (t : ℕ). isIn t ts) below64
 
 unfoldable pub withRising : Entry → Entry
-withRising e = record { initiator = e .initiator; slot = e .slot; span = e .span; targets = rising (e .targets) }
+withRising e = withTargets (rising (e .targets)) e
 
 -- "Writing out puts fields in order of tag, then by number, by (initiator, target) or by (initiator, slot)."
 unfoldable pub canonical : Plan → Plan
-canonical p = record {
-  devices = inOrder (λ (d : Device). d .num) (p .devices);
-  links = map smallFirst (inOrder (λ (l : Link). l .num) (p .links));
-  paths = inOrder (λ (x : Route). x .initiator) (inOrder (λ (x : Route). x .target) (p .paths));
-  entries = map withRising (inOrder (λ (e : Entry). e .initiator) (inOrder (λ (e : Entry). e .slot) (p .entries)));
-  timings = p .timings;
-}
+canonical p =
+    withDevices (inOrder (λ (d : Device). d .num) (p .devices))
+    (withLinks (map smallFirst (inOrder (λ (l : Link). l .num) (p .links)))
+    (withPaths (inOrder (λ (x : Route). x .start) (inOrder (λ (x : Route). x .end) (p .paths)))
+    (withEntries (map withRising (inOrder (λ (e : Entry). e .initiator) (inOrder (λ (e : Entry). e .slot) (p .entries)))) p)))
 
 -- the items in order of tag, and the bytes of their fields
 unfoldable pub items : Plan → List Item

@@ -18,7 +18,7 @@ asLink c = link (record { num = nth c 0; one = nth c 1; other = nth c 2 })
 
 -- "initiator, target, then 1 to 8 link numbers in order"
 unfoldable pub asPath : List ℕ → Item
-asPath c = path (record { initiator = nth c 0; target = nth c 1; links = drop 2 c })
+asPath c = path (record { start = nth c 0; end = nth c 1; links = drop 2 c })
 
 -- "initiator, slot 0 to 63, span, then 1 to 16 targets"
 unfoldable pub asEntry : List ℕ → Item
@@ -90,7 +90,7 @@ tagFor (timing t) = 5
 unfoldable pub contentFor : Item → List ℕ
 contentFor (device d) = d .num ∷ d .kind ∷ []
 contentFor (link l) = l .num ∷ l .one ∷ l .other ∷ []
-contentFor (path x) = x .initiator ∷ x .target ∷ x .links
+contentFor (path x) = x .start ∷ x .end ∷ x .links
 contentFor (entry e) = e .initiator ∷ e .slot ∷ e .span ∷ e .targets
 contentFor (timing t) = fourBytes (t .least) ++ fourBytes (t .greatest)
 

@@ -24,7 +24,7 @@ unfoldable pub sameLinkNumber : Link → Link → Bool
 sameLinkNumber l m = eqb (l .num) (m .num)
 
 unfoldable pub samePathEnds : Route → Route → Bool
-samePathEnds x y = eqb (x .initiator) (y .initiator) && eqb (x .target) (y .target)
+samePathEnds x y = eqb (x .start) (y .start) && eqb (x .end) (y .end)
 
 unfoldable pub sameEntryPlace : Entry → Entry → Bool
 sameEntryPlace e f = eqb (e .initiator) (f .initiator) && eqb (e .slot) (f .slot)

@@ -10,18 +10,28 @@ use Rattle.lists.specs.Search.{any, all, when, firstSome, twice, least}
 use Rattle.lists.specs.Rows.{Row, firstOf}
 use Rattle.plan_rules.specs.declared.Verdict.{Verdict}
 use Rattle.plan_rules.specs.declared.Verdict.the-variants.{Accepted, Faulty, Overrun, Clash}
-use Rattle.plan_rules.specs.Plan.{Entry, Plan, blank, Item, device, link, path, entry, timing, grow}
+use Rattle.plan_rules.specs.Plan.{Route, Entry, Plan, blank, Item, device, link, path, entry, timing, grow}
 use Rattle.plan_rules.specs.Fields.{isTag, comesOnce, lengthAllowed, tagAt, sizeAt, nextAt, itemAt}
 use Rattle.plan_rules.specs.Meaning.{isDevice, isNode, isLink, isInitiator, initiators, hasPath, isWalk, mayUse, isAtWork, standsAt, overruns}
 
 unfoldable pub over63 : ℕ → Bool
 over63 n = ltb 63 n
 
+-- rows 6, 8 and 10 of a route by its start, its end and its links; row 7 of it is hasRoute
+abbrev pub routeOutOfRange : Route → Bool
+routeOutOfRange x = over63 (x .start) || over63 (x .end) || any over63 (x .links) || eqb (x .start) (x .end)
+
+abbrev pub routeNotGiven : Plan → Route → Bool
+routeNotGiven p x = not (isNode p (x .start) && isNode p (x .end) && all (isLink p) (x .links))
+
+abbrev pub routeNoWalk : Plan → Route → Bool
+routeNoWalk p x = not (isWalk p (x .start) (x .links) (x .end))
+
 -- 6: "a device, link, kind, slot, span or interval out of range; a link joining a device to itself; a path with initiator equal to target"
 unfoldable pub outOfRange : Item → Bool
 outOfRange (device d) = over63 (d .num) || ltb 1 (d .kind)
 outOfRange (link l) = over63 (l .num) || over63 (l .one) || over63 (l .other) || eqb (l .one) (l .other)
-outOfRange (path x) = over63 (x .initiator) || over63 (x .target) || any over63 (x .links) || eqb (x .initiator) (x .target)
+outOfRange (path x) = routeOutOfRange x
 outOfRange (entry e) = over63 (e .initiator) || over63 (e .slot) || eqb (e .span) 0 || ltb 16 (e .span) || any over63 (e .targets)
 outOfRange (timing t) = eqb (t .greatest) 0 || ltb 2_147_483_647 (t .greatest) || ltb (t .greatest) (t .least)
 
@@ -29,7 +39,7 @@ outOfRange (timing t) = eqb (t .greatest) 0 || ltb 2_147_483_647 (t .greatest) |
 unfoldable pub givenBefore : Plan → Item → Bool
 givenBefore p (device d) = isDevice p (d .num)
 givenBefore p (link l) = isLink p (l .num)
-givenBefore p (path x) = hasPath p (x .initiator) (x .target)
+givenBefore p (path x) = hasPath p (x .start) (x .end)
 givenBefore p (entry e) = any (standsAt (e .initiator) (e .slot)) (p .entries) || twice (e .targets)
 givenBefore p (timing t) = false
 
@@ -37,7 +47,7 @@ givenBefore p (timing t) = false
 unfoldable pub notGiven : Plan → Item → Bool
 notGiven p (device d) = false
 notGiven p (link l) = not (isDevice p (l .one) && isDevice p (l .other))
-notGiven p (path x) = not (isNode p (x .initiator) && isNode p (x .target) && all (isLink p) (x .links))
+notGiven p (path x) = routeNotGiven p x
 notGiven p (entry e) = not (isNode p (e .initiator) && all (isNode p) (e .targets))
 notGiven p (timing t) = false
 
@@ -45,7 +55,7 @@ notGiven p (timing t) = false
 unfoldable pub tooMany : Plan → Item → Bool
 tooMany p (device d) = false
 tooMany p (link l) = false
-tooMany p (path x) = not (isInitiator p (x .initiator)) && leb 8 (length (initiators p)) || leb 128 (length (p .paths))
+tooMany p (path x) = not (isInitiator p (x .start)) && leb 8 (length (initiators p)) || leb 128 (length (p .paths))
 tooMany p (entry e) = false
 tooMany p (timing t) = false
 
@@ -53,7 +63,7 @@ tooMany p (timing t) = false
 unfoldable pub noWalk : Plan → Item → Bool
 noWalk p (device d) = false
 noWalk p (link l) = false
-noWalk p (path x) = not (isWalk p (x .initiator) (x .links) (x .target))
+noWalk p (path x) = routeNoWalk p x
 noWalk p (entry e) = false
 noWalk p (timing t) = false
 

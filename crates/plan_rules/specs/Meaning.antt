@@ -27,16 +27,20 @@ isLink p n = any (λ (l : Link). eqb n (l .num)) (p .links)
 
 -- "An initiator is a device that stands first in some path."
 unfoldable pub isInitiator : Plan → ℕ → Bool
-isInitiator p i = any (λ (x : Route). eqb i (x .initiator)) (p .paths)
+isInitiator p i = any (λ (x : Route). eqb i (x .start)) (p .paths)
 
 unfoldable pub initiators : Plan → List ℕ
 initiators p = keep (isInitiator p) below64
 
+-- a route leads from device a to device b; one of the routes xs does
 unfoldable pub leadsFrom : ℕ → ℕ → Route → Bool
-leadsFrom i t x = eqb i (x .initiator) && eqb t (x .target)
+leadsFrom a b x = eqb a (x .start) && eqb b (x .end)
+
+abbrev pub hasRoute : List Route → ℕ → ℕ → Bool
+hasRoute xs a b = any (leadsFrom a b) xs
 
 unfoldable pub hasPath : Plan → ℕ → ℕ → Bool
-hasPath p i t = any (leadsFrom i t) (p .paths)
+hasPath p i t = hasRoute (p .paths) i t
 
 -- "A path is a walk: its first link touches the initiator, each link leads on from the device reached":
 -- the device that link l leads to from device d
@@ -59,9 +63,13 @@ walks p met d (l ∷ ls) end =
 unfoldable pub isWalk : Plan → ℕ → List ℕ → ℕ → Bool
 isWalk p start ls end = walks p (start ∷ []) start ls end
 
+-- one of the routes xs leads from device a to device b, and over link l
+abbrev pub goesOver : List Route → ℕ → ℕ → ℕ → Bool
+goesOver xs a b l = any (λ (x : Route). leadsFrom a b x && isIn l (x .links)) xs
+
 -- "A transaction uses the links of its path. The reply goes back over the same links. A link counts whole, both directions."
 unfoldable pub uses : Plan → ℕ → ℕ → ℕ → Bool
-uses p i t l = any (λ (x : Route). leadsFrom i t x && isIn l (x .links)) (p .paths)
+uses p i t l = goesOver (p .paths) i t l
 
 -- "Entry (initiator, slot s, span n) covers slots s to s+n-1, modulo 64."
 unfoldable pub covers : Entry → ℕ → Bool

@@ -25,10 +25,11 @@ pub record Link : Type 0 where
   pub one : ℕ
   pub other : ℕ
 
--- a path: its links in order. (Path is the name of a type of the library.)
+-- a way over links in order, from the device that it is walked from to the one that it leads to: a path starts at its initiator and
+-- ends at its target. (Path is the name of a type of the library.)
 pub record Route : Type 0 where
-  pub initiator : ℕ
-  pub target : ℕ
+  pub start : ℕ
+  pub end : ℕ
   pub links : List ℕ
 
 pub record Entry : Type 0 where
@@ -36,6 +37,9 @@ pub record Entry : Type 0 where
   pub slot : ℕ
   pub span : ℕ
   pub targets : List ℕ
+
+abbrev pub withTargets : List ℕ → Entry → Entry
+withTargets ts e = record { initiator = e .initiator; slot = e .slot; span = e .span; targets = ts }
 
 -- least and greatest time-code interval
 pub record Timing : Type 0 where
@@ -52,6 +56,22 @@ pub record Plan : Type 0 where
 unfoldable pub blank : Plan
 blank = record { devices = []; links = []; paths = []; entries = []; timings = [] }
 
+-- the plan with one list replaced
+abbrev pub withDevices : List Device → Plan → Plan
+withDevices ds p = record { devices = ds; links = p .links; paths = p .paths; entries = p .entries; timings = p .timings }
+
+abbrev pub withLinks : List Link → Plan → Plan
+withLinks ls p = record { devices = p .devices; links = ls; paths = p .paths; entries = p .entries; timings = p .timings }
+
+abbrev pub withPaths : List Route → Plan → Plan
+withPaths xs p = record { devices = p .devices; links = p .links; paths = xs; entries = p .entries; timings = p .timings }
+
+abbrev pub withEntries : List Entry → Plan → Plan
+withEntries es p = record { devices = p .devices; links = p .links; paths = p .paths; entries = es; timings = p .timings }
+
+abbrev pub withTimings : List Timing → Plan → Plan
+withTimings ts p = record { devices = p .devices; links = p .links; paths = p .paths; entries = p .entries; timings = ts }
+
 -- what one field gives
 pub data Item : Type 0 where
   device : Device → Item
@@ -62,8 +82,8 @@ pub data Item : Type 0 where
 
 -- the plan with one more item, at the end of its list
 unfoldable pub grow : Plan → Item → Plan
-grow p (device d) = record { devices = p .devices ++ (d ∷ []); links = p .links; paths = p .paths; entries = p .entries; timings = p .timings }
-grow p (link l) = record { devices = p .devices; links = p .links ++ (l ∷ []); paths = p .paths; entries = p .entries; timings = p .timings }
-grow p (path x) = record { devices = p .devices; links = p .links; paths = p .paths ++ (x ∷ []); entries = p .entries; timings = p .timings }
-grow p (entry e) = record { devices = p .devices; links = p .links; paths = p .paths; entries = p .entries ++ (e ∷ []); timings = p .timings }
-grow p (timing t) = record { devices = p .devices; links = p .links; paths = p .paths; entries = p .entries; timings = p .timings ++ (t ∷ []) }
+grow p (device d) = withDevices (p .devices ++ (d ∷ [])) p
+grow p (link l) = withLinks (p .links ++ (l ∷ [])) p
+grow p (path x) = withPaths (p .paths ++ (x ∷ [])) p
+grow p (entry e) = withEntries (p .entries ++ (e ∷ [])) p
+grow p (timing t) = withTimings (p .timings ++ (t ∷ [])) p

@@ -29,8 +29,8 @@ CoversAsWorded =
 pub record OnPath (p : Plan) (i t l : ℕ) : Type 0 where
   pub route : Route
   pub has : List·Memᴰ route (p .paths)
-  pub from : i ≡ route .initiator
-  pub to : t ≡ route .target
+  pub from : i ≡ route .start
+  pub to : t ≡ route .end
   pub on : List·Memᴰ l (route .links)
 
 unfoldable pub UsesAsWorded : Type 0

@@ -43,9 +43,12 @@ pub record Owner : Type 0 where
   pub plan : Plan
   pub initiator : ℕ
 
+abbrev pub owner : Plan → ℕ → Owner
+owner p i = record { plan = p; initiator = i }
+
 -- the owner of row r, initiator 0 where the plan has no such row
 unfoldable pub ownerOf : Plan → ℕ → Owner
-ownerOf p r = record { plan = p; initiator = ofRow p r (λ (i : ℕ). i) }
+ownerOf p r = owner p (ofRow p r (λ (i : ℕ). i))
 
 -- a set of targets and a span tell what an entry of the owner permits
 pub record Tells (o : Owner) (targets′ span′ : ℕ) (e : Entry) : Type 0 where

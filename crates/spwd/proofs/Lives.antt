@@ -12,6 +12,8 @@ use Rattle.plan_rules.specs.Plan.{nth}
 use Rattle.plan_rules.specs.Meaning.{initiators}
 use Rattle.plan_rules.specs.Promises.{AcceptedIsSound}
 use Rattle.box_rules.specs.declared.Watchdog.{Watchdog}
+use Rattle.plan_view.specs.View.{Owner, owner}
+use Rattle.plan_view.specs.laws.Entries.{owner-at}
 use Rattle.box_rules.specs.State as state
 use Rattle.box_rules.specs.State.{Box, Live, idle, thePlan}
 use Rattle.box_rules.specs.Records.{full}
@@ -20,7 +22,6 @@ use Rattle.box_rules.specs.Promises as box
 use Rattle.box_rules.specs.laws.Steps.{plan-kept}
 use Rattle.box_rules.specs.laws.Fit.{FitRequest}
 use Rattle.initiators.specs.Run.{swapped, wordOf, targetIn, numberIn, lengthIn, liveWord, liveTime, sideOf}
-use Rattle.initiators.specs.laws.RunSides.{initiator-at}
 use Rattle.initiators.specs.laws.Words.{apart}
 use Rattle.calls.specs.Calls.{Memory, by-event}
 use Rattle.spwd.specs.Words.{runWord, requestIn}
@@ -41,7 +42,7 @@ bytes-from : (w n : ℕ) → w / n % 256 * 256 + w / (n * 256) % 256 ≡ swapped
 bytes-from w n = ap (λ (y : ℕ). w / n % 256 * 256 + y % 256) (sym (div-div-eq-div-mul w n 256)) ∙ two-bytes (w / n)
 
 -- a word tells its request
-request-told : (i : ℕ) (r : state.Request) → FitRequest r → requestIn (wordOf i r) ≡ r
+request-told : (i : Owner) (r : state.Request) → FitRequest r → requestIn (wordOf i r) ≡ r
 unfolding requestIn targetIn numberIn lengthIn
 request-told i r f =
     let a = apart i r f in
@@ -70,9 +71,9 @@ lives m b h r low n = go (atPlace r (initiators (thePlan b))) refl
 
 -- its words
 module _ (m : Memory) (b : Box) (h : HeldBy m b) (r i : ℕ) (low : r < 8) (at : atPlace r (initiators (thePlan b)) ≡ some i) (l : Live) (is : (b .side i) .live ≡ some l) where
-  word-is : runWord m r 10 ≡ wordOf i (l .request)
+  word-is : runWord m r 10 ≡ wordOf (owner (thePlan b) i) (l .request)
   unfolding sideOf liveWord
-  word-is = live-word m b h r low ∙ rw (initiator-at (thePlan b) r i at, at, sideOf, is, liveWord)
+  word-is = live-word m b h r low ∙ rw (owner-at (thePlan b) r i at, at, sideOf, is, liveWord)
 
   time-is : runWord m r 11 ≡ (l .span - l .age) * 256 + l .span
   unfolding sideOf liveTime
@@ -103,8 +104,8 @@ live-by-record-only ok only before after e answer b came s r low n = go (only b 
     at : atPlace r (initiators (thePlan b)) ≡ some (x .initiator)
     at = rw (plan-kept size b w e) at (x .place)
 
-    word : runWord (after .memory) r 10 ≡ wordOf (x .initiator) (x .live .request)
-    word = word-is (after .memory) (o .box) h′ r (x .initiator) low (x .place) (x .live) (x .is)
+    word : runWord (after .memory) r 10 ≡ wordOf (owner (thePlan b) (x .initiator)) (x .live .request)
+    word = rw (plan-kept size b w e) at (word-is (after .memory) (o .box) h′ r (x .initiator) low (x .place) (x .live) (x .is))
 
     go : ((m : Live) × ((b .side (x .initiator)) .live ≡ some m) × (x .live .request ≡ m .request) × (x .live .span ≡ m .span))
         ⊎ ((v : ℕ) × List·Memᴰ (full 5 (x .initiator) v (x .live .request)) (o .records))
@@ -117,7 +118,7 @@ live-by-record-only ok only before after e answer b came s r low n = go (only b 
         inl
         (record {
           live = λ z. omega (arith, f .young);
-          request = word ∙ ap (wordOf (x .initiator)) request ∙ sym (word-is (before .memory) b h r (x .initiator) low at m is);
+          request = word ∙ ap (wordOf (owner (thePlan b) (x .initiator))) request ∙ sym (word-is (before .memory) b h r (x .initiator) low at m is);
           span = omega (arith, f .young, f .span, f′ .young, f′ .span, span);
         })
     go (inr (v, m)) =

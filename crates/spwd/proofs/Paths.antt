@@ -23,7 +23,7 @@ use Rattle.plan_rules.specs.Good.{Each}
 use Rattle.plan_rules.specs.laws.Lengths.{Sized}
 use Rattle.plan_rules.specs.laws.Uses.{on-path}
 use Rattle.plan_memory.specs.Memory.{pathsInOrder, numbersWith, numbersOf}
-use Rattle.plan_memory.specs.laws.PathRows.{path-count, to-order, path-at, initiator-byte, target-byte, count-byte, link-bytes}
+use Rattle.plan_memory.specs.laws.PathRows.{path-count, to-order, path-at, start-byte, end-byte, count-byte, link-bytes}
 use Rattle.box_rules.specs.State.{Box, thePlan}
 use Rattle.box_rules.specs.History.{Reached}
 use Rattle.calls.specs.Calls.{Memory}
@@ -54,11 +54,11 @@ module _ (m : Memory) (b : Box) (h : HeldBy m b) (i t l : ℕ) where
   low = (ranged b (h .reached)) .1
 
   -- the row of a path
-  row-is : (k : ℕ) (x : Route) → atPlace k (pathsInOrder p) ≡ some x → isPath m i t l k ≡ eqb (x .initiator) i && eqb (x .target) t && isIn l (x .links)
+  row-is : (k : ℕ) (x : Route) → atPlace k (pathsInOrder p) ≡ some x → isPath m i t l k ≡ eqb (x .start) i && eqb (x .end) t && isIn l (x .links)
   unfolding isPath linksIn
   row-is k x at =
       let n : 11 * k ≡ k * 11 = omega arith in
-      rw (h .at .plan .paths, n, initiator-byte p sized low k x at, target-byte p sized low k x at, count-byte p sized low k x at, link-bytes p sized low k x at)
+      rw (h .at .plan .paths, n, start-byte p sized low k x at, end-byte p sized low k x at, count-byte p sized low k x at, link-bytes p sized low k x at)
 
   all : nth (m .numbers) 3 ≡ length (p .paths)
   unfolding numbersOf numbersWith
@@ -69,8 +69,8 @@ module _ (m : Memory) (b : Box) (h : HeldBy m b) (i t l : ℕ) where
 
   row-uses : (k : ℕ) (x : Route) → atPlace k (pathsInOrder p) ≡ some x → isPath m i t l k ≡ true → uses p i t l ≡ true
   row-uses k x at is =
-      let a = both-true (eqb (x .initiator) i && eqb (x .target) t) (isIn l (x .links)) (sym (row-is k x at) ∙ is) in
-      let c = both-true (eqb (x .initiator) i) (eqb (x .target) t) (a .0) in
+      let a = both-true (eqb (x .start) i && eqb (x .end) t) (isIn l (x .links)) (sym (row-is k x at) ∙ is) in
+      let c = both-true (eqb (x .start) i) (eqb (x .end) t) (a .0) in
       (on-path p i t l) .1
       (record { route = x; has = path-at p sized low k x at; from = sym (eqb-true _ i (c .0)); to = sym (eqb-true _ t (c .1)); on = isIn-elim l (x .links) (a .1) })
 
@@ -88,7 +88,7 @@ module _ (m : Memory) (b : Box) (h : HeldBy m b) (i t l : ℕ) where
       let x = o .route in
       let (k, within, at) = member-at (pathsInOrder p) x (to-order p sized low x (o .has)) in
       any-below (nth (m .numbers) 3) (isPath m i t l) k (omega (arith, all, as-many))
-      (row-is k x at ∙ true-both (true-both (eq-eqb (x .initiator) i (sym (o .from))) (eq-eqb (x .target) t (sym (o .to)))) (isIn-intro l (x .links) (o .on)))
+      (row-is k x at ∙ true-both (true-both (eq-eqb (x .start) i (sym (o .from))) (eq-eqb (x .end) t (sym (o .to)))) (isIn-intro l (x .links) (o .on)))
 
   pub path-says : pathHas m i t l ≡ uses p i t l
   path-says = same-test (pathHas m i t l) (uses p i t l) there back

@@ -17,10 +17,11 @@ use Rattle.plan_rules.specs.Meaning.{initiators}
 use Rattle.plan_rules.specs.laws.Initiators.{initiators-once}
 use Rattle.plan_memory.specs.Memory.{ofRow, numbersWith, numbersOf}
 use Rattle.plan_memory.specs.laws.InRows.{of-row, row-cell}
+use Rattle.plan_view.specs.View.{Owner, ownerOf}
 use Rattle.plan_view.specs.laws.Rows.{row-initiator}
 use Rattle.box_rules.specs.State.{Box, Side, Live, idle, thePlan}
 use Rattle.box_rules.specs.laws.Fit.{FitSide, Fit}
-use Rattle.initiators.specs.Run.{targetIn, liveWord, liveTime, rowOf, initiatorOf, sideOf, runOf}
+use Rattle.initiators.specs.Run.{targetIn, liveWord, liveTime, rowOf, sideOf, runOf}
 use Rattle.initiators.specs.laws.RunRows.{run-part}
 use Rattle.initiators.specs.laws.RunSides.{sides-fit}
 use Rattle.initiators.specs.laws.Words.{apart, live-word-in, live-time-in}
@@ -29,7 +30,7 @@ use Rattle.spwd.specs.Words.{RowOf, runWord, waitingIn, liveTargetIn}
 use Rattle.spwd.specs.Promises.{HeldBy}
 
 -- what is live, told from the last two words of a row
-module _ (n : ℕ) (s : Side) (f : FitSide s) where
+module _ (n : Owner) (s : Side) (f : FitSide s) where
   live-told : (a c : ℕ) → a ≡ liveTime (s .live) → c ≡ liveWord n (s .live) → cond (eqb a 0) none (some (c / 65_536 % 64)) ≡ Option·map (λ (l : Live). l .request .target) (s .live)
   unfolding liveTime liveWord targetIn
   live-told a c ea ec = go (s .live) refl
@@ -47,25 +48,25 @@ module _ (m : Memory) (b : Box) (h : HeldBy m b) where
   abbrev fit : Fit b
   fit = h .finds .fit
 
-  run-word : (r k : ℕ) → r < 8 → k < 12 → runWord m r k ≡ nth (rowOf (initiatorOf (thePlan b) r) (sideOf (thePlan b) (b .side) r)) k
+  run-word : (r k : ℕ) → r < 8 → k < 12 → runWord m r k ≡ nth (rowOf (ownerOf (thePlan b) r) (sideOf (thePlan b) (b .side) r)) k
   unfolding runOf
   run-word r k low l =
       let e : 12 * r + k ≡ r * 12 + k = omega arith in
       let run = m .run in
       ap (nth run) e ∙ sym (getD-drop (r * 12) run k 0) ∙ sym (getD-take 12 (drop (r * 12) run) k 0 l)
       ∙ ap (λ (ws : List ℕ). nth (take 12 (drop (r * 12) ws)) k) (h .at .runs .run)
-      ∙ ap (λ (ws : List ℕ). nth ws k) (run-part (initiatorOf (thePlan b)) (sideOf (thePlan b) (b .side)) (sides-fit b fit) r low)
+      ∙ ap (λ (ws : List ℕ). nth ws k) (run-part (ownerOf (thePlan b)) (sideOf (thePlan b) (b .side)) (sides-fit b fit) r low)
 
   -- what is live by the words of a row is live in the box
-  pub live-word : (r : ℕ) → r < 8 → runWord m r 10 ≡ liveWord (initiatorOf (thePlan b) r) ((sideOf (thePlan b) (b .side) r) .live)
-  live-word r low = run-word r 10 low (omega arith) ∙ live-word-in (initiatorOf (thePlan b) r) (sideOf (thePlan b) (b .side) r) (sides-fit b fit r)
+  pub live-word : (r : ℕ) → r < 8 → runWord m r 10 ≡ liveWord (ownerOf (thePlan b) r) ((sideOf (thePlan b) (b .side) r) .live)
+  live-word r low = run-word r 10 low (omega arith) ∙ live-word-in (ownerOf (thePlan b) r) (sideOf (thePlan b) (b .side) r) (sides-fit b fit r)
 
   pub live-time : (r : ℕ) → r < 8 → runWord m r 11 ≡ liveTime ((sideOf (thePlan b) (b .side) r) .live)
-  live-time r low = run-word r 11 low (omega arith) ∙ live-time-in (initiatorOf (thePlan b) r) (sideOf (thePlan b) (b .side) r) (sides-fit b fit r)
+  live-time r low = run-word r 11 low (omega arith) ∙ live-time-in (ownerOf (thePlan b) r) (sideOf (thePlan b) (b .side) r) (sides-fit b fit r)
 
   live-in : (r : ℕ) → r < 8 → liveTargetIn m r ≡ Option·map (λ (l : Live). l .request .target) ((sideOf (thePlan b) (b .side) r) .live)
   unfolding liveTargetIn
-  live-in r low = live-told (initiatorOf (thePlan b) r) (sideOf (thePlan b) (b .side) r) (sides-fit b fit r) (runWord m r 11) (runWord m r 10) (live-time r low) (live-word r low)
+  live-in r low = live-told (ownerOf (thePlan b) r) (sideOf (thePlan b) (b .side) r) (sides-fit b fit r) (runWord m r 11) (runWord m r 10) (live-time r low) (live-word r low)
 
   -- the rows that are in use are those of the initiators
   in-use : nth (m .numbers) 2 ≡ length (initiators (thePlan b))

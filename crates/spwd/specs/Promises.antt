@@ -129,7 +129,7 @@ unfoldable pub RequestsStartInTime : Type 0
 RequestsStartInTime =
     (before after : Lent) (i t k n transaction : ℕ) (b : Box) → Came (before .memory) b →
     StepLeaves before (Request i t k n) (Joined transaction) after →
-    StartsInTime before after i (record { target = t; kind = k; length = n; number = transaction })
+    StartsInTime before after i (state.request t k n transaction)
 
 -- Demand 3, entries. "Nobody starts outside its entries": a record of kind 5 is written at a time-code in sequence, and in the row of its
 -- initiator an entry stands at the value, with the target among its targets and 256 × span at least the length.

@@ -2,7 +2,7 @@
 use Prim.Native.Nat.{_<_}
 use native.Mathlib.Omega.{arith}
 use lib.ListN.{length}
-use Rattle.plan_view.specs.View.{Owner}
+use Rattle.plan_view.specs.View.{owner}
 use Rattle.asking.proofs.Joins.{full, joins}
 use borrow.Author.Needs.{needs}
 use Rattle.asking.proofs.ask_row.Statement.{statement}
@@ -18,7 +18,7 @@ returns : tie.Need-returns
 returns c =
     let a = c .before .before .before .before .args in
     λ p s f need is.
-    let o : Owner = record { plan = p; initiator = a .initiator } in
+    let o = owner p (a .initiator) in
     full o s (a .row .now) (a .target) (a .kind) (a .length) is (omega (arith, c .before .waiting .ensures .1 o s f is))
 
 join-row-requires : tie.Need-join-row-requires
@@ -33,7 +33,7 @@ returns-2 c =
     let a = d .before .before .before .before .args in
     let j = c .before .before .join-row in
     λ p s f need is.
-    let o : Owner = record { plan = p; initiator = a .initiator } in
+    let o = owner p (a .initiator) in
     let short : length (s .line) < 8 = omega (arith, d .before .waiting .ensures .1 o s f is) in
     joins o s (j .last .0) (a .target) (a .kind) (a .length) short (j .result) (j .ensures p s f need is)
 

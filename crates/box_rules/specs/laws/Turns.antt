@@ -13,7 +13,7 @@ use Rattle.lists.specs.laws.Bools.{none-some, some-some, not-some}
 use Rattle.plan_rules.specs.Plan.{Entry, Plan}
 use Rattle.plan_rules.specs.Meaning.{entryAt}
 use Rattle.plan_rules.specs.laws.Runs.{StandsAt, entry-at}
-use Rattle.box_rules.specs.State.{Side, Live, Request}
+use Rattle.box_rules.specs.State.{Side, withLine, withLive, Live, Request}
 use Rattle.box_rules.specs.Turn.{Start, valueOf, isLate, older, survives, aged, visited, allows, startAt, starting, fresh, begun, startOf, turned}
 
 -- what is still live after the report was live before, in sequence, with time left
@@ -89,7 +89,7 @@ module _ (p : Plan) (q : Bool) (byte i : ℕ) (s : Side) where
   begins-at e f seq at free is = rw (free, seq, at, is)
 
   pub turned-start : (x : Start) → startOf p q byte i s ≡ some x
-      → turned p q byte i s ≡ record { next = s .next; line = without (x .found .place) (s .line); live = some (fresh x) }
+      → turned p q byte i s ≡ withLine (without (x .found .place) (s .line)) (withLive (some (fresh x)) s)
   unfolding turned begun aged
   turned-start x h = rw (h, begun)
 

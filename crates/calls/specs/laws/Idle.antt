@@ -9,16 +9,17 @@ use Rattle.lists.specs.Place.{atPlace}
 use Rattle.lists.specs.Cells.{padded}
 use Rattle.plan_rules.specs.Plan.{Plan}
 use Rattle.plan_rules.specs.Meaning.{initiators}
+use Rattle.plan_view.specs.View.{Owner, ownerOf}
 use Rattle.box_rules.specs.State.{idle}
-use Rattle.initiators.specs.Run.{liveWord, liveTime, rowOf, initiatorOf, sideOf, rowsWith, runOf}
+use Rattle.initiators.specs.Run.{liveWord, liveTime, rowOf, sideOf, rowsWith, runOf}
 
-all-idle : (n : ℕ → ℕ) → rowsWith n (λ r. idle) ≡ replicate 96 0
+all-idle : (n : ℕ → Owner) → rowsWith n (λ r. idle) ≡ replicate 96 0
 unfolding rowsWith rowOf idle liveWord liveTime padded upFrom flatMap
 all-idle n = refl
 
 pub idle-run : (p : Plan) → runOf p (λ i. idle) ≡ replicate 96 0
 unfolding runOf sideOf
-idle-run p = ap (rowsWith (initiatorOf p)) (fun-ext (λ r. go (atPlace r (initiators p)))) ∙ all-idle (initiatorOf p)
+idle-run p = ap (rowsWith (ownerOf p)) (fun-ext (λ r. go (atPlace r (initiators p)))) ∙ all-idle (ownerOf p)
   where
     go : (o : Option ℕ) → elim o [ none ↦ idle | some i ↦ idle ] ≡ idle
     go none = refl

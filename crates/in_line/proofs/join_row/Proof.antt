@@ -1,7 +1,7 @@
 -- `join_row` meets its contract. Assumes nothing.
 use native.Mathlib.Omega.{arith}
 use Rattle.initiators.specs.laws.RowWords.{count-at}
-use Rattle.plan_view.specs.View.{Owner}
+use Rattle.plan_view.specs.View.{owner}
 use Rattle.in_line.proofs.Rows.{joins}
 use borrow.Author.Needs.{needs}
 use Rattle.in_line.proofs.join_row.Statement.{statement}
@@ -51,7 +51,7 @@ returns c =
     let a = c .before .before .before .before .before in
     let x = a .args in
     λ p s f need is.
-    let o : Owner = record { plan = p; initiator = x .initiator } in
+    let o = owner p (x .initiator) in
     joins o s f (x .row .now) is (x .target) (x .kind) (x .length) _ _ (omega (arith, a .pre .1, count-at o s f (x .row .now) is)) (c .before .word-of .ensures p need) (c .next-number .ensures)
 
 pub join-row-spec : {M : Type 1} → statement M

@@ -10,7 +10,7 @@ use borrow.Author.Tests.{eqb-true}
 use Rattle.lists.specs.Place.{atPlace}
 use Rattle.plan_rules.specs.Plan.{Plan}
 use Rattle.plan_rules.specs.Meaning.{initiators}
-use Rattle.plan_view.specs.View.{Owner, ownerOf}
+use Rattle.plan_view.specs.View.{Owner, ownerOf, owner}
 use Rattle.plan_view.specs.laws.Entries.{owner-at}
 use Rattle.box_rules.specs.State.{Box, Side, idle, thePlan}
 use Rattle.box_rules.specs.Step.{withSide}
@@ -53,8 +53,8 @@ module _ (n : ℕ → Owner) (s : ℕ → Side) (fit : (k : ℕ) → FitSide (s 
 module _ (b : Box) (run last : List ℕ) (holds : Runs b run last) (i row : ℕ) (at : atPlace row (initiators (thePlan b)) ≡ some i) where
   -- what is told of the row that is lent, told of the initiator's side and of run memory
   pub on-row : {A : Type 0} (g : Side → A) (f : Side → Side) (r : A) (size : ℕ) (part : List ℕ) → Fit b → row < 8 → size ≡ 12
-      → ((s : Side) → FitSide s → take size (drop (row * 12) run) ≡ rowOf (record { plan = thePlan b; initiator = i }) s
-      → (r ≡ g s) × (part ≡ rowOf (record { plan = thePlan b; initiator = i }) (f s)))
+      → ((s : Side) → FitSide s → take size (drop (row * 12) run) ≡ rowOf (owner (thePlan b) i) s
+      → (r ≡ g s) × (part ≡ rowOf (owner (thePlan b) i) (f s)))
       → (r ≡ g (b .side i)) × (take (row * 12) run ++ (part ++ drop size (drop (row * 12) run)) ≡ rowsWith (ownerOf (thePlan b)) (changed row (f (b .side i)) (sideOf (thePlan b) (b .side))))
   unfolding runOf
   on-row g f r size part fit low twelve told =

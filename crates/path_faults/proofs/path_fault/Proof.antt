@@ -47,7 +47,7 @@ links-within c w =
 row : (c : tie.Else1) {size : ℕ} {p : Plan} →
     let a = c .before .before .before .before .args in
     Given size p (a .sets .now) (a .ends .now) (a .rows .now) (a .reach .now) (a .numbers .now) → RowRead p (a .initiator) (a .row)
-row c g = row-found g (route-range _ (in-range c) .initiator) (c .before .before .before .before .pre)
+row c g = row-found g (route-range _ (in-range c) .start) (c .before .before .before .before .pre)
 
 mul-has : tie.Need-mul-has
 mul-has c = search needs
@@ -64,7 +64,7 @@ returns-2 c =
     let r = in-range o in (
       λ size p f a b d e g.
           let m = given {size = size} f a b d e g in
-          fault-7 p _ _ _ r (sym (path-read m (row o m) (c .before .before .before .if2 .taken) (route-range _ r .target)) ∙ sym (c .before .has .ensures) ∙ c .if3 .taken),
+          fault-7 p _ _ _ r (sym (path-read m (row o m) (c .before .before .before .if2 .taken) (route-range _ r .end)) ∙ sym (c .before .has .ensures) ∙ c .if3 .taken),
       λ e. absurd (omega arith),
     )
 
@@ -74,7 +74,7 @@ new : (c : tie.Joined2) {size : ℕ} {p : Plan} →
     Given size p (a .sets .now) (a .ends .now) (a .rows .now) (a .reach .now) (a .numbers .now) → hasPath p (a .initiator) (a .target) ≡ false
 new c g =
     let f = row (c .before) g in
-    let b = route-range _ (in-range (c .before)) .target in
+    let b = route-range _ (in-range (c .before)) .end in
     ⊎-elim (λ w. sym (path-read g f (w .0 .taken) b) ∙ sym (w .2 .ensures) ∙ w .3 .left) (λ w. path-missed g f (w .left) _) (c .if2 .came)
 
 element-copy-out-nodes : tie.Need-element-copy-out-nodes
@@ -89,7 +89,7 @@ returns-3 c =
     let r = in-range (o .before) in (
       λ size p f a b d e g.
           let m = given {size = size} f a b d e g in
-          let z = sym (node-read m (route-range _ r .initiator)) ∙ sym (c .before .has2 .ensures) ∙ not-true _ (c .if4 .taken) in
+          let z = sym (node-read m (route-range _ r .start)) ∙ sym (c .before .has2 .ensures) ∙ not-true _ (c .if4 .taken) in
           fault-8 p _ _ _ r (new o m) (rw z),
       λ e. absurd (omega arith),
     )
@@ -103,7 +103,7 @@ returns-4 c =
     let r = in-range (o .before) in (
       λ size p f a b d e g.
           let m = given {size = size} f a b d e g in
-          let z = sym (node-read m (route-range _ r .target)) ∙ sym (c .before .has3 .ensures) ∙ not-true _ (c .if5 .taken) in
+          let z = sym (node-read m (route-range _ r .end)) ∙ sym (c .before .has3 .ensures) ∙ not-true _ (c .if5 .taken) in
           fault-8 p _ _ _ r (new o m) (rw (z, and-false)),
       λ e. absurd (omega arith),
     )
@@ -141,8 +141,8 @@ known c g =
     let r = route-range _ (in-range (c .before .before .before .before .before .before .before .before .before)) in
     true-both
     (true-both
-    (sym (node-read g (r .initiator)) ∙ sym (c .before .before .before .before .before .before .has2 .ensures) ∙ not-false _ (c .before .before .before .before .before .if4 .left))
-    (sym (node-read g (r .target)) ∙ sym (c .before .before .before .before .has3 .ensures) ∙ not-false _ (c .before .before .before .if5 .left)))
+    (sym (node-read g (r .start)) ∙ sym (c .before .before .before .before .before .before .has2 .ensures) ∙ not-false _ (c .before .before .before .before .before .if4 .left))
+    (sym (node-read g (r .end)) ∙ sym (c .before .before .before .before .has3 .ensures) ∙ not-false _ (c .before .before .before .if5 .left)))
     (links-known c g)
 
 returns-6 : tie.Need-returns-6
@@ -175,7 +175,7 @@ returns-8 c =
     let r = in-range (o .before) in (
       λ size p f a b d e g.
           let m = given {size = size} f a b d e g in
-          fault-10 p _ _ _ r (new o m) (known k m) (not-many m _ _ _ _ (row (o .before) m) (c .before .before .before .before .if7 .left) (c .before .before .if8 .left)) (sym (o .before .before .before .trace .ensures .2 p f (route-range _ r .initiator) (links-known k m) a b) ∙ not-true _ (c .if9 .taken)),
+          fault-10 p _ _ _ r (new o m) (known k m) (not-many m _ _ _ _ (row (o .before) m) (c .before .before .before .before .if7 .left) (c .before .before .if8 .left)) (sym (o .before .before .before .trace .ensures .2 p f (route-range _ r .start) (links-known k m) a b) ∙ not-true _ (c .if9 .taken)),
       λ e. absurd (omega arith),
     )
 
@@ -186,7 +186,7 @@ returns-9 c =
     let r = in-range (o .before) in (
       λ size p f a b d e g.
           let m = given {size = size} f a b d e g in
-          fault-none p _ _ _ r (new o m) (known k m) (not-many m _ _ _ _ (row (o .before) m) (c .before .before .before .before .if7 .left) (c .before .before .if8 .left)) (sym (o .before .before .before .trace .ensures .2 p f (route-range _ r .initiator) (links-known k m) a b) ∙ not-false _ (c .if9 .left)),
+          fault-none p _ _ _ r (new o m) (known k m) (not-many m _ _ _ _ (row (o .before) m) (c .before .before .before .before .if7 .left) (c .before .before .if8 .left)) (sym (o .before .before .before .trace .ensures .2 p f (route-range _ r .start) (links-known k m) a b) ∙ not-false _ (c .if9 .left)),
       λ e. (c .before .before .before .before .if7 .left, c .before .before .if8 .left),
     )
 

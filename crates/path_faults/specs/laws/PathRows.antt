@@ -57,7 +57,7 @@ row-read p i h b = go (first-from (min (length (initiators p)) 8) 0 test)
 -- who is no initiator has no path
 pub no-paths : (p : Plan) (i t : ℕ) → isInitiator p i ≡ false → hasPath p i t ≡ false
 unfolding isInitiator hasPath leadsFrom
-no-paths p i t h = any-none (leadsFrom i t) (p .paths) (λ x m. rw (any-false (λ (x : Route). eqb i (x .initiator)) (p .paths) x h m))
+no-paths p i t h = any-none (leadsFrom i t) (p .paths) (λ x m. rw (any-false (λ (x : Route). eqb i (x .start)) (p .paths) x h m))
 
 -- what the row of an initiator reaches, and a row of none
 pub reach-some : (p : Plan) (r i : ℕ) → r < 8 → atPlace r (initiators p) ≡ some i → nth (reachOf p) r ≡ packed (hasPath p i)

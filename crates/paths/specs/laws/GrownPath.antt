@@ -13,33 +13,33 @@ use Rattle.plan_rules.specs.Plan.{Route, Plan, path, grow}
 use Rattle.plan_rules.specs.Meaning.{isInitiator, initiators, leadsFrom, hasPath}
 
 module _ (p : Plan) (x : Route) where
-  pub grown-isInitiator : (n : ℕ) → isInitiator (grow p (path x)) n ≡ (isInitiator p n || eqb n (x .initiator))
+  pub grown-isInitiator : (n : ℕ) → isInitiator (grow p (path x)) n ≡ (isInitiator p n || eqb n (x .start))
   unfolding isInitiator grow any
-  grown-isInitiator n = any-append (λ (y : Route). eqb n (y .initiator)) (p .paths) (x ∷ []) ∙ ap (λ b. isInitiator p n || b) (or-false (eqb n (x .initiator)))
+  grown-isInitiator n = any-append (λ (y : Route). eqb n (y .start)) (p .paths) (x ∷ []) ∙ ap (λ b. isInitiator p n || b) (or-false (eqb n (x .start)))
 
   pub grown-hasPath : (j u : ℕ) → hasPath (grow p (path x)) j u ≡ (hasPath p j u || leadsFrom j u x)
   unfolding hasPath grow any
   grown-hasPath j u = any-append (leadsFrom j u) (p .paths) (x ∷ []) ∙ ap (λ b. hasPath p j u || b) (or-false (leadsFrom j u x))
 
   -- from the path's initiator to one more target, from others as before
-  pub own-hasPath : (u : ℕ) → hasPath (grow p (path x)) (x .initiator) u ≡ (hasPath p (x .initiator) u || eqb u (x .target))
+  pub own-hasPath : (u : ℕ) → hasPath (grow p (path x)) (x .start) u ≡ (hasPath p (x .start) u || eqb u (x .end))
   unfolding leadsFrom
-  own-hasPath u = grown-hasPath (x .initiator) u ∙ (rw (eq-eqb (x .initiator) (x .initiator) refl))
+  own-hasPath u = grown-hasPath (x .start) u ∙ (rw (eq-eqb (x .start) (x .start) refl))
 
-  pub other-hasPath : (j u : ℕ) → j ≢ x .initiator → hasPath (grow p (path x)) j u ≡ hasPath p j u
+  pub other-hasPath : (j u : ℕ) → j ≢ x .start → hasPath (grow p (path x)) j u ≡ hasPath p j u
   unfolding leadsFrom
-  other-hasPath j u d = grown-hasPath j u ∙ (rw (ne-eqb j (x .initiator) d) (or-false (hasPath p j u)))
+  other-hasPath j u d = grown-hasPath j u ∙ (rw (ne-eqb j (x .start) d) (or-false (hasPath p j u)))
 
   -- the initiators: the same, or one more at its place
-  pub kept-initiators : isInitiator p (x .initiator) ≡ true → initiators (grow p (path x)) ≡ initiators p
+  pub kept-initiators : isInitiator p (x .start) ≡ true → initiators (grow p (path x)) ≡ initiators p
   unfolding initiators
-  kept-initiators h = keep-same (isInitiator (grow p (path x))) (isInitiator p) below64 (λ n m. grown-isInitiator n ∙ by n (eqb n (x .initiator)) refl)
+  kept-initiators h = keep-same (isInitiator (grow p (path x))) (isInitiator p) below64 (λ n m. grown-isInitiator n ∙ by n (eqb n (x .start)) refl)
     where
-      by : (n : ℕ) (b : Bool) → eqb n (x .initiator) ≡ b → isInitiator p n || b ≡ isInitiator p n
-      by n true e = rw (eqb-true n (x .initiator) e, h)
+      by : (n : ℕ) (b : Bool) → eqb n (x .start) ≡ b → isInitiator p n || b ≡ isInitiator p n
+      by n true e = rw (eqb-true n (x .start) e, h)
       by n false e = or-false (isInitiator p n)
 
-  pub one-initiator : x .initiator < 64 → isInitiator p (x .initiator) ≡ false
-      → Inserted (λ n. n < x .initiator) (λ n. x .initiator < n) (initiators p) (x .initiator) (initiators (grow p (path x)))
+  pub one-initiator : x .start < 64 → isInitiator p (x .start) ≡ false
+      → Inserted (λ n. n < x .start) (λ n. x .start < n) (initiators p) (x .start) (initiators (grow p (path x)))
   unfolding initiators
-  one-initiator h e = inserted-number (isInitiator p) (isInitiator (grow p (path x))) (x .initiator) h e grown-isInitiator
+  one-initiator h e = inserted-number (isInitiator p) (isInitiator (grow p (path x))) (x .start) h e grown-isInitiator

@@ -40,31 +40,31 @@ module _ (p : Plan) (f : Fair p) where
   unfolding pathsOf
   byte-at k j x h l = padded-at 1408 0 (flatMap pathRow (pathsInOrder p)) (k * 11 + j) ∙ chunk-at pathRow 11 k j (pathsInOrder p) x 0 wide (omega (arith, as-many)) l
 
-  pub initiator-at : (k : ℕ) (x : Route) → k < length (p .paths) → nth (pathsOf p) (k * 11) ≡ getD (pathsInOrder p) k x .initiator
+  pub start-at : (k : ℕ) (x : Route) → k < length (p .paths) → nth (pathsOf p) (k * 11) ≡ getD (pathsInOrder p) k x .start
   unfolding pathRow
-  initiator-at k x h = ap (nth (pathsOf p)) (sym (add-zero (k * 11))) ∙ byte-at k 0 x h (omega arith)
+  start-at k x h = ap (nth (pathsOf p)) (sym (add-zero (k * 11))) ∙ byte-at k 0 x h (omega arith)
 
-  pub target-at : (k : ℕ) (x : Route) → k < length (p .paths) → nth (pathsOf p) (k * 11 + 1) ≡ getD (pathsInOrder p) k x .target
+  pub end-at : (k : ℕ) (x : Route) → k < length (p .paths) → nth (pathsOf p) (k * 11 + 1) ≡ getD (pathsInOrder p) k x .end
   unfolding pathRow
-  target-at k x h = byte-at k 1 x h (omega arith)
+  end-at k x h = byte-at k 1 x h (omega arith)
 
 module _ (p : Plan) (f : Fair p) (x : Route) (g : Passes p (path x)) where
-  pub inserted-path : Placed (λ y. Before (y .initiator) (y .target) (x .initiator) (x .target)) (λ y. Before (x .initiator) (x .target) (y .initiator) (y .target)) x
+  pub inserted-path : Placed (λ y. Before (y .start) (y .end) (x .start) (x .end)) (λ y. Before (x .start) (x .end) (y .start) (y .end)) x
       (pathsInOrder p) x (pathsInOrder (grow p (path x)))
   unfolding pathsInOrder grow givenBefore hasPath leadsFrom
   inserted-path =
       let r = route-range x (g .range) in
-      placed x (inserted-orders (λ (y : Route). y .initiator) (λ (y : Route). y .target) (p .paths) x (r .initiator) (r .target)
-      (λ y m a b. not-both (true-both (eq-eqb (x .initiator) (y .initiator) (sym a)) (eq-eqb (x .target) (y .target) (sym b))) (any-false (leadsFrom (x .initiator) (x .target)) (p .paths) y (g .new) m)))
+      placed x (inserted-orders (λ (y : Route). y .start) (λ (y : Route). y .end) (p .paths) x (r .start) (r .end)
+      (λ y m a b. not-both (true-both (eq-eqb (x .start) (y .start) (sym a)) (eq-eqb (x .end) (y .end) (sym b))) (any-false (leadsFrom (x .start) (x .end)) (p .paths) y (g .new) m)))
 
-  pub path-place : IsPlace (pathsOf p) (length (p .paths)) (x .initiator) (x .target) (inserted-path .place)
+  pub path-place : IsPlace (pathsOf p) (length (p .paths)) (x .start) (x .end) (inserted-path .place)
   path-place =
       let r = inserted-path in record {
         within = omega (arith, r .within, as-many p f);
         less = λ j h.
             let b : j < length (p .paths) = omega (arith, r .within, as-many p f) in
-            rw (initiator-at p f j x b, target-at p f j x b) (behind-precedes _ _ _ _ (r .less j h));
-        more = λ j h b. rw (initiator-at p f j x b, target-at p f j x b) (before-precedes _ _ _ _ (r .more j h (omega (arith, as-many p f))));
+            rw (start-at p f j x b, end-at p f j x b) (behind-precedes _ _ _ _ (r .less j h));
+        more = λ j h b. rw (start-at p f j x b, end-at p f j x b) (before-precedes _ _ _ _ (r .more j h (omega (arith, as-many p f))));
       }
 
   pub paths-kept : length (x .links) ≤ 8 → keptPaths (pathsOf p) (length (p .paths)) (inserted-path .place) x ≡ pathsOf (grow p (path x))

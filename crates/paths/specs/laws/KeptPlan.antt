@@ -30,10 +30,10 @@ module _ (p : Plan) (f : Fair p) where
 -- what keeping a path leaves in the arrays
 abbrev pub Kept : List ℕ → List ℕ → List ℕ → List ℕ → Route → List ℕ → List ℕ → List ℕ → List ℕ → Type 0
 Kept rows reach paths numbers x rows′ reach′ paths′ numbers′ =
-    (rows′ ≡ withRow rows (nth numbers 2) (x .initiator) (x .initiator) rows)
+    (rows′ ≡ withRow rows (nth numbers 2) (x .start) (x .start) rows)
     × (reach′ ≡ keptReach rows reach (nth numbers 2) x)
-    × ((m : ℕ) → IsPlace paths (nth numbers 3) (x .initiator) (x .target) m → paths′ ≡ keptPaths paths (nth numbers 3) m x)
-    × (numbers′ ≡ keptNumbers rows numbers (x .initiator))
+    × ((m : ℕ) → IsPlace paths (nth numbers 3) (x .start) (x .end) m → paths′ ≡ keptPaths paths (nth numbers 3) m x)
+    × (numbers′ ≡ keptNumbers rows numbers (x .start))
 
 pub kept-plan : (size : ℕ) (p : Plan) → Fair p → (x : Route) → 0 ≡ itemFault p (path x) → length (x .links) ≤ 8
     → {rows reach paths numbers rows′ reach′ paths′ numbers′ : List ℕ} → rows ≡ rowsOf p → reach ≡ reachOf p → paths ≡ pathsOf p → numbers ≡ numbersWith size p

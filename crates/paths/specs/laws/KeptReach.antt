@@ -48,15 +48,15 @@ reach-length p = length-cells 8 _
 
 module _ (p : Plan) (x : Route) where
   -- the word of the path's initiator, with the target; the words of the others stay
-  pub own-word : (s : ℕ) → ((u : ℕ) → u < 64 → member u s ≡ hasPath p (x .initiator) u) → packed (added (x .target) s) ≡ reached (grow p (path x)) (x .initiator)
-  own-word s h = packed-same _ _ (λ u b. added-below (x .target) s u b ∙ (rw (h u b)) ∙ or-comm (eqb u (x .target)) (hasPath p (x .initiator) u) ∙ sym (own-hasPath p x u))
+  pub own-word : (s : ℕ) → ((u : ℕ) → u < 64 → member u s ≡ hasPath p (x .start) u) → packed (added (x .end) s) ≡ reached (grow p (path x)) (x .start)
+  own-word s h = packed-same _ _ (λ u b. added-below (x .end) s u b ∙ (rw (h u b)) ∙ or-comm (eqb u (x .end)) (hasPath p (x .start) u) ∙ sym (own-hasPath p x u))
 
-  pub other-word : (j : ℕ) → j ≢ x .initiator → reached p j ≡ reached (grow p (path x)) j
+  pub other-word : (j : ℕ) → j ≢ x .start → reached p j ≡ reached (grow p (path x)) j
   other-word j d = packed-same _ _ (λ u b. sym (other-hasPath p x j u d))
 
 module _ (p : Plan) (f : Fair p) (x : Route) (g : Passes p (path x)) where
   abbrev i : ℕ
-  i = x .initiator
+  i = x .start
 
   abbrev count : ℕ
   count = length (initiators p)
@@ -65,7 +65,7 @@ module _ (p : Plan) (f : Fair p) (x : Route) (g : Passes p (path x)) where
   q = grow p (path x)
 
   -- an initiator that has a row: only its cell changes
-  module _ (e : isInitiator p (x .initiator) ≡ true) (r : ℕ) (h : r < 8) (a : atPlace r (initiators p) ≡ some (x .initiator)) where
+  module _ (e : isInitiator p (x .start) ≡ true) (r : ℕ) (h : r < 8) (a : atPlace r (initiators p) ≡ some (x .start)) where
     own-cell : ofRow q r (reached q) ≡ reached q i
     unfolding ofRow
     own-cell = rw (kept-initiators p x e, a, ofRow)
@@ -78,13 +78,13 @@ module _ (p : Plan) (f : Fair p) (x : Route) (g : Passes p (path x)) where
         go none b = refl
         go (some n) b = other-word p x n (λ c. d (place-once (initiators p) j r i (initiators-once p) (b ∙ ap some c) a))
 
-    reach-set : set (reachOf p) r (packed (added (x .target) (nth (reachOf p) r))) ≡ reachOf q
+    reach-set : set (reachOf p) r (packed (added (x .end) (nth (reachOf p) r))) ≡ reachOf q
     unfolding reachOf
     reach-set = cells-set 8 _ _ 0 r _ h
         (own-word p x (nth (reachOf p) r) (λ u b. ap (member u) (reach-some p r i h a) ∙ member-packed-below u (hasPath p i) b) ∙ sym own-cell)
         (λ j l d. other-cell j d)
 
-  reach-old : isInitiator p (x .initiator) ≡ true → keptReach (rowsOf p) (reachOf p) (length (initiators p)) x ≡ reachOf (grow p (path x))
+  reach-old : isInitiator p (x .start) ≡ true → keptReach (rowsOf p) (reachOf p) (length (initiators p)) x ≡ reachOf (grow p (path x))
   unfolding keptReach
   reach-old e =
       let w = row-of-x p f x g in
@@ -94,7 +94,7 @@ module _ (p : Plan) (f : Fair p) (x : Route) (g : Passes p (path x)) where
       (reach-set e (rowAmong (rowsOf p) count i) (omega (arith, f .lists .paths .eight)) (w .found l))
 
   -- a new one: its word stands at its place among the others
-  module _ (e : isInitiator p (x .initiator) ≡ false) where
+  module _ (e : isInitiator p (x .start) ≡ false) where
     abbrev k : ℕ
     k = inserted p f x g e .place
 
@@ -113,7 +113,7 @@ module _ (p : Plan) (f : Fair p) (x : Route) (g : Passes p (path x)) where
         ∙ ap (padded 8 0) (sym (ap (map (reached q)) (r .new) ∙ map-append (reached q) (take k (initiators p)) (i ∷ drop k (initiators p)) ∙ (rw (map-take (reached q) k (initiators p), map-drop (reached q) k (initiators p)))))
         ∙ sym (reach-padded q (eight-grows p x (g .few) (f .lists .paths .eight)))
 
-  reach-new : isInitiator p (x .initiator) ≡ false → keptReach (rowsOf p) (reachOf p) (length (initiators p)) x ≡ reachOf (grow p (path x))
+  reach-new : isInitiator p (x .start) ≡ false → keptReach (rowsOf p) (reachOf p) (length (initiators p)) x ≡ reachOf (grow p (path x))
   unfolding keptReach
   reach-new e =
       let l : k e ≤ length (reachOf p) = omega (arith, inserted p f x g e .within, f .lists .paths .eight, reach-length p) in

@@ -33,7 +33,7 @@ use Rattle.path_places.specs.laws.OwnRow.{old-array, new-array, old-count, new-
 
 module _ (p : Plan) (f : Fair p) (x : Route) (g : Passes p (path x)) where
   abbrev i : ℕ
-  i = x .initiator
+  i = x .start
 
   abbrev count : ℕ
   count = length (initiators p)
@@ -41,20 +41,20 @@ module _ (p : Plan) (f : Fair p) (x : Route) (g : Passes p (path x)) where
   abbrev q : Plan
   q = grow p (path x)
 
-  pub i-below : x .initiator < 64
-  i-below = route-range x (g .range) .initiator
+  pub i-below : x .start < 64
+  i-below = route-range x (g .range) .start
 
-  pub row-of-x : RowRead p (x .initiator) (rowAmong (rowsOf p) (length (initiators p)) (x .initiator))
+  pub row-of-x : RowRead p (x .start) (rowAmong (rowsOf p) (length (initiators p)) (x .start))
   row-of-x = row-read p i (f .lists .paths .eight) i-below
 
   -- an initiator that has a row
-  module _ (e : isInitiator p (x .initiator) ≡ true) where
-    pub has-row : rowAmong (rowsOf p) (length (initiators p)) (x .initiator) ≢ length (initiators p)
+  module _ (e : isInitiator p (x .start) ≡ true) where
+    pub has-row : rowAmong (rowsOf p) (length (initiators p)) (x .start) ≢ length (initiators p)
     has-row h = not-both e (row-of-x .missed h)
 
   -- a new one, its place, and room for its row
-  module _ (e : isInitiator p (x .initiator) ≡ false) where
-    pub no-row-yet : rowAmong (rowsOf p) (length (initiators p)) (x .initiator) ≡ length (initiators p)
+  module _ (e : isInitiator p (x .start) ≡ false) where
+    pub no-row-yet : rowAmong (rowsOf p) (length (initiators p)) (x .start) ≡ length (initiators p)
     no-row-yet = go (decLt _ count)
       where
         go : Dec (rowAmong (rowsOf p) count i < count) → rowAmong (rowsOf p) count i ≡ count
@@ -67,17 +67,17 @@ module _ (p : Plan) (f : Fair p) (x : Route) (g : Passes p (path x)) where
         let n : leb 8 count || leb 128 (length (p .paths)) ≡ false = rw e at (g .few) in
         leb-false 8 count ((neither (leb 8 count) (leb 128 (length (p .paths))) n) .0)
 
-    pub inserted : Placed (λ n. n < x .initiator) (λ n. x .initiator < n) 0 (initiators p) (x .initiator) (initiators (grow p (path x)))
+    pub inserted : Placed (λ n. n < x .start) (λ n. x .start < n) 0 (initiators p) (x .start) (initiators (grow p (path x)))
     inserted = placed 0 (one-initiator p x i-below e)
 
-    pub row-place : rowPlace (rowsOf p) (length (initiators p)) (x .initiator) ≡ inserted .place
+    pub row-place : rowPlace (rowsOf p) (length (initiators p)) (x .start) ≡ inserted .place
     unfolding rowsOf
     row-place = last-is _ (inserted .place) _ (inserted .within)
         (λ j h. lt-ltb _ i (omega (arith, inserted .less j h, padded-at 8 0 (initiators p) j)))
         (λ j h l. le-ltb _ i (omega (arith, inserted .more j h l, padded-at 8 0 (initiators p) j)))
 
   -- the rows
-  pub rows-kept : withRow (rowsOf p) (length (initiators p)) (x .initiator) (x .initiator) (rowsOf p) ≡ rowsOf (grow p (path x))
+  pub rows-kept : withRow (rowsOf p) (length (initiators p)) (x .start) (x .start) (rowsOf p) ≡ rowsOf (grow p (path x))
   unfolding rowsOf
   rows-kept = go (isInitiator p i) refl
     where
@@ -89,7 +89,7 @@ module _ (p : Plan) (f : Fair p) (x : Route) (g : Passes p (path x)) where
           ∙ sym (padded-putIn 8 (r .place) 0 (i ∷ []) (initiators p) (r .within) (omega (arith, room e))) ∙ ap (padded 8 0) (sym (r .new))
 
   -- the numbers
-  pub numbers-kept : (size : ℕ) → keptNumbers (rowsOf p) (numbersWith size p) (x .initiator) ≡ numbersWith size (grow p (path x))
+  pub numbers-kept : (size : ℕ) → keptNumbers (rowsOf p) (numbersWith size p) (x .start) ≡ numbersWith size (grow p (path x))
   unfolding keptNumbers numbersWith grow
   numbers-kept size = go (isInitiator p i) refl
     where

@@ -17,11 +17,11 @@ use Rattle.plan_memory.specs.laws.PathRows.{row-length}
 use Rattle.path_places.specs.laws.OwnRow.{count-keeps}
 
 -- the target added to what the row reaches
-pub reach-stored : (rows reach own : List ℕ) (count r w : ℕ) (x : Route) → r ≡ ownRow rows count (x .initiator) → own ≡ withRow rows count (x .initiator) 0 reach
-    → w < 2 ^ 64 → ((k : ℕ) → member k w ≡ added (x .target) (nth own r) k) → set own r w ≡ keptReach rows reach count x
+pub reach-stored : (rows reach own : List ℕ) (count r w : ℕ) (x : Route) → r ≡ ownRow rows count (x .start) → own ≡ withRow rows count (x .start) 0 reach
+    → w < 2 ^ 64 → ((k : ℕ) → member k w ≡ added (x .end) (nth own r) k) → set own r w ≡ keptReach rows reach count x
 unfolding keptReach
 reach-stored rows reach own count r w x e f h a =
-    ap (set own r) (packed-is w (added (x .target) (nth own r)) h (λ k _. a k)) ∙ (rw (e, f))
+    ap (set own r) (packed-is w (added (x .end) (nth own r)) h (λ k _. a k)) ∙ (rw (e, f))
 
 -- one path more
 pub numbers-stored : (rows numbers now : List ℕ) (i : ℕ) → now ≡ withCount rows numbers i → set now 3 (nth now 3 + 1) ≡ keptNumbers rows numbers i
@@ -30,9 +30,9 @@ numbers-stored rows numbers now i e = rw (e, count-keeps rows numbers i)
 
 -- room made at the path's place, and its bytes put there
 pub paths-stored : (paths qs rs : List ℕ) (c n k : ℕ) (x : Route) → length paths ≡ 1408 → length (x .links) ≤ 8 → c ≡ n → n < 128
-    → (k ≤ c) × ((m : ℕ) → IsPlace paths c (x .initiator) (x .target) m → k ≡ m)
+    → (k ≤ c) × ((m : ℕ) → IsPlace paths c (x .start) (x .end) m → k ≡ m)
     → (length paths ≡ 1408 → qs ≡ moved 11 (k * 11) (c * 11) paths) → (length qs ≡ 1408 → rs ≡ paste qs (k * 11) (pathRow x) 11)
-    → (m : ℕ) → IsPlace paths n (x .initiator) (x .target) m → rs ≡ keptPaths paths n m x
+    → (m : ℕ) → IsPlace paths n (x .start) (x .end) m → rs ≡ keptPaths paths n m x
 unfolding keptPaths
 paths-stored paths qs rs c n k x e l q h f g r m p =
     let a = g e in

@@ -33,7 +33,7 @@ row-length x h = omega (arith, length-padded 8 0 (x .links) h)
 module _ (p : Plan) (lengths : (x : Item) → List·Memᴰ x (items p) → Sized x) (ranges : Each p outOfRange false) where
   pub path-order : Shuffled _≡_ (p .paths) (pathsInOrder p)
   unfolding pathsInOrder
-  path-order = inOrders-shuffled _ _ (p .paths) (λ x m. let r = path-ranged p ranges x m in (r .initiator, r .target))
+  path-order = inOrders-shuffled _ _ (p .paths) (λ x m. let r = path-ranged p ranges x m in (r .start, r .end))
 
   pub path-count : length (pathsInOrder p) ≡ length (p .paths)
   path-count = sym (shuffled-length path-order)
@@ -61,13 +61,13 @@ module _ (p : Plan) (lengths : (x : Item) → List·Memᴰ x (items p) → Sized
     byte : (j : ℕ) → nth (pathsOf p) (k * 11 + j) ≡ nth (pathRow x ++ row .0) j
     byte j = sym (getD-drop (k * 11) (pathsOf p) j 0) ∙ ap (λ (m : List ℕ). nth m j) (row .1)
 
-    pub initiator-byte : nth (pathsOf p) (k * 11) ≡ x .initiator
+    pub start-byte : nth (pathsOf p) (k * 11) ≡ x .start
     unfolding pathRow
-    initiator-byte = ap (nth (pathsOf p)) (sym (add-zero (k * 11))) ∙ byte 0
+    start-byte = ap (nth (pathsOf p)) (sym (add-zero (k * 11))) ∙ byte 0
 
-    pub target-byte : nth (pathsOf p) (k * 11 + 1) ≡ x .target
+    pub end-byte : nth (pathsOf p) (k * 11 + 1) ≡ x .end
     unfolding pathRow
-    target-byte = byte 1
+    end-byte = byte 1
 
     pub count-byte : nth (pathsOf p) (k * 11 + 2) ≡ length (x .links)
     unfolding pathRow

@@ -63,7 +63,7 @@ module _ {p q : Plan} (s : SamePlan p q) where
   -- where no path is there twice
   pub same-pathsInOrder : repeats samePathEnds (p .paths) ≡ false → pathsInOrder p ≡ pathsInOrder q
   unfolding pathsInOrder samePathEnds
-  same-pathsInOrder u = orders-same (s .paths) (λ x. x .initiator) (λ x. x .target) u
+  same-pathsInOrder u = orders-same (s .paths) (λ x. x .start) (λ x. x .end) u
 
   pub same-paths : repeats samePathEnds (p .paths) ≡ false → pathsOf p ≡ pathsOf q
   unfolding pathsOf

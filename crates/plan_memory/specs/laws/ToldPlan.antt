@@ -89,12 +89,12 @@ told-links p q e f r u l m =
 row-told : (x y : Route) → pathRow x ≡ pathRow y → x ≡ y
 unfolding pathRow
 row-told x y e =
-    let a : x .initiator ≡ y .initiator = cc in
-    let b : x .target ≡ y .target = cc in
+    let a : x .start ≡ y .start = cc in
+    let b : x .end ≡ y .end = cc in
     let l : length (x .links) ≡ length (y .links) = cc in
     let d : padded 8 0 (x .links) ≡ padded 8 0 (y .links) = cc in
     let f = padded-told 8 0 (x .links) (y .links) l d in
-    λ i. record { initiator = a i; target = b i; links = f i }
+    λ i. record { start = a i; end = b i; links = f i }
 
 -- `numbers`
 module _ (p q : Plan) (e : numbersOf p ≡ numbersOf q) where

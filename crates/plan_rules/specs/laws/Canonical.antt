@@ -59,7 +59,7 @@ unfolding canonical
 same-ordered p r u = record {
   devices = inOrder-shuffled (λ d. d .num) (p .devices) (λ d m. (device-ranged p r d m) .num);
   links = shuffled-each link-refl smallFirst (inOrder-shuffled (λ l. l .num) (p .links) (λ l m. (link-ranged p r l m) .num)) (λ l m. smallFirst-same l);
-  paths = inOrders-shuffled (λ x. x .initiator) (λ x. x .target) (p .paths) (λ x m. let h = path-ranged p r x m in (h .initiator, h .target));
+  paths = inOrders-shuffled (λ x. x .start) (λ x. x .end) (p .paths) (λ x m. let h = path-ranged p r x m in (h .start, h .end));
   entries = shuffled-each entry-refl withRising (inOrders-shuffled (λ e. e .initiator) (λ e. e .slot) (p .entries) (λ e m. let h = entry-ranged p r e m in (h .initiator, h .slot)))
       (λ e m. withRising-same e (u e m) ((entry-ranged p r e m) .targets));
   timings = refl;
@@ -77,7 +77,7 @@ unfolding canonical sameDeviceNumber sameLinkNumber samePathEnds sameEntryPlace
 canonical-same p q g s = rw (
   order-same (s .devices) (λ d. d .num) (g .devices),
   order-shuffled link-refl smallFirst smallFirst-respects (λ l. l .num) (λ l m h. h .num) (s .links) (g .links),
-  orders-same (s .paths) (λ x. x .initiator) (λ x. x .target) (g .paths),
+  orders-same (s .paths) (λ x. x .start) (λ x. x .end) (g .paths),
   orders-shuffled entry-refl withRising withRising-respects (λ e. e .initiator) (λ e. e .slot) (λ e f h. h .initiator) (λ e f h. h .slot) (s .entries) (g .entries),
   s .timings,
 )

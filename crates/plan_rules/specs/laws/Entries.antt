@@ -27,7 +27,7 @@ pub path-initiator : (p : Plan) (i t : ℕ) → hasPath p i t ≡ true → isIni
 unfolding hasPath isInitiator leadsFrom
 path-initiator p i t h =
     let (x, m, e) = any-elim (leadsFrom i t) (p .paths) h in
-    any-intro _ (p .paths) x m ((both-true (eqb i (x .initiator)) (eqb t (x .target)) e) .0)
+    any-intro _ (p .paths) x m ((both-true (eqb i (x .start)) (eqb t (x .end)) e) .0)
 
 -- no two entries have the same initiator and slot (row 7)
 pub entry-once : (es : List Entry) → repeats sameEntryPlace es ≡ false → (e f : Entry) → List·Memᴰ e es → List·Memᴰ f es → e .initiator ≡ f .initiator → e .slot ≡ f .slot → e ≡ f

@@ -28,8 +28,8 @@ module _ (p : Plan) (good : Good p) where
   good-initiator : (i : ℕ) → isInitiator p i ≡ true → i < 64
   unfolding isInitiator
   good-initiator i h =
-      let (x, m, e) = any-elim (λ (x : Route). eqb i (x .initiator)) (p .paths) h in
-      omega (arith, eqb-true i (x .initiator) e, (path-ranged p (good .ranges) x m) .initiator)
+      let (x, m, e) = any-elim (λ (x : Route). eqb i (x .start)) (p .paths) h in
+      omega (arith, eqb-true i (x .start) e, (path-ranged p (good .ranges) x m) .start)
 
   pub good-sound : Sound p
   good-sound = record {

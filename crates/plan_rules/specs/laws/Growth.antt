@@ -98,11 +98,11 @@ module _ (p q : Plan) where
       b : Begins (p .devices) (q .devices)
       b = w .devices (omega arith)
 
-      on : isNode p (x .initiator) && isNode p (x .target) && all (isLink p) (x .links) ≡ true → isNode q (x .initiator) && isNode q (x .target) && all (isLink q) (x .links) ≡ true
+      on : isNode p (x .start) && isNode p (x .end) && all (isLink p) (x .links) ≡ true → isNode q (x .start) && isNode q (x .end) && all (isLink q) (x .links) ≡ true
       on g =
-          let a = both-true (isNode p (x .initiator) && isNode p (x .target)) (all (isLink p) (x .links)) g in
-          let c = both-true (isNode p (x .initiator)) (isNode p (x .target)) (a .0) in
-          true-both (true-both (node-grows b (x .initiator) (c .0)) (node-grows b (x .target) (c .1))) (all-more (isLink p) (isLink q) (x .links) (link-grows (w .links (omega arith))) (a .1))
+          let a = both-true (isNode p (x .start) && isNode p (x .end)) (all (isLink p) (x .links)) g in
+          let c = both-true (isNode p (x .start)) (isNode p (x .end)) (a .0) in
+          true-both (true-both (node-grows b (x .start) (c .0)) (node-grows b (x .end) (c .1))) (all-more (isLink p) (isLink q) (x .links) (link-grows (w .links (omega arith))) (a .1))
   known-grows (entry e) w h = not-not _ _ (λ g. let a = both-true (isNode p (e .initiator)) (all (isNode p) (e .targets)) g in true-both (node-grows b (e .initiator) (a .0)) (all-more (isNode p) (isNode q) (e .targets) (node-grows b) (a .1))) h
     where
       b : Begins (p .devices) (q .devices)
@@ -114,7 +114,7 @@ module _ (p q : Plan) where
   unfolding noWalk tagFor isWalk
   walk-grows (device d) w h = refl
   walk-grows (link l) w h = refl
-  walk-grows (path x) w h = not-not _ _ (walks-grows (w .devices (omega arith)) (w .links (omega arith)) (x .initiator ∷ []) (x .initiator) (x .links) (x .target)) h
+  walk-grows (path x) w h = not-not _ _ (walks-grows (w .devices (omega arith)) (w .links (omega arith)) (x .start ∷ []) (x .start) (x .links) (x .end)) h
   walk-grows (entry e) w h = refl
   walk-grows (timing t) w h = refl
 

@@ -39,52 +39,52 @@ unfolding initiators isInitiator
 same-initiators p q e = rw e
 
 -- an initiator of the grown plan was one, or is that of the path
-grown-initiator : (p : Plan) (x : Route) (i : ℕ) → isInitiator (grow p (path x)) i ≡ true → (isInitiator p i ≡ true) ⊎ (i ≡ x .initiator)
+grown-initiator : (p : Plan) (x : Route) (i : ℕ) → isInitiator (grow p (path x)) i ≡ true → (isInitiator p i ≡ true) ⊎ (i ≡ x .start)
 unfolding isInitiator grow any
-grown-initiator p x i h = go (either (isInitiator p i) (eqb i (x .initiator) || false) (rw any-append at h))
+grown-initiator p x i h = go (either (isInitiator p i) (eqb i (x .start) || false) (rw any-append at h))
   where
-    one : (eqb i (x .initiator) ≡ true) ⊎ (false ≡ true) → i ≡ x .initiator
-    one (inl e) = eqb-true i (x .initiator) e
+    one : (eqb i (x .start) ≡ true) ⊎ (false ≡ true) → i ≡ x .start
+    one (inl e) = eqb-true i (x .start) e
     one (inr e) = not-both {a = false} e refl
 
-    go : (isInitiator p i ≡ true) ⊎ (eqb i (x .initiator) || false ≡ true) → (isInitiator p i ≡ true) ⊎ (i ≡ x .initiator)
+    go : (isInitiator p i ≡ true) ⊎ (eqb i (x .start) || false ≡ true) → (isInitiator p i ≡ true) ⊎ (i ≡ x .start)
     go (inl e) = inl e
-    go (inr e) = inr (one (either (eqb i (x .initiator)) false e))
+    go (inr e) = inr (one (either (eqb i (x .start)) false e))
 
 -- row 9 does not hold of a path, and there are at most eight initiators: there are at most eight with the path
 pub eight-grows : (p : Plan) (x : Route) → tooMany p (path x) ≡ false → length (initiators p) ≤ 8 → length (initiators (grow p (path x))) ≤ 8
 unfolding tooMany
-eight-grows p x h l = go (isInitiator p (x .initiator)) refl
+eight-grows p x h l = go (isInitiator p (x .start)) refl
   where
     q : Plan
     q = grow p (path x)
 
     -- the initiators of q are among the list
-    among : (is : List ℕ) → ((i : ℕ) → i < 64 → (isInitiator p i ≡ true) ⊎ (i ≡ x .initiator) → List·Memᴰ i is) → length (initiators q) ≤ length is
+    among : (is : List ℕ) → ((i : ℕ) → i < 64 → (isInitiator p i ≡ true) ⊎ (i ≡ x .start) → List·Memᴰ i is) → length (initiators q) ≤ length is
     among is f = fewer (initiators q) is (λ i m. f i (initiator-below q i m) (grown-initiator p x i (initiator-in q i m))) (initiators-once q)
 
-    old : isInitiator p (x .initiator) ≡ true → (i : ℕ) → i < 64 → (isInitiator p i ≡ true) ⊎ (i ≡ x .initiator) → List·Memᴰ i (initiators p)
+    old : isInitiator p (x .start) ≡ true → (i : ℕ) → i < 64 → (isInitiator p i ≡ true) ⊎ (i ≡ x .start) → List·Memᴰ i (initiators p)
     old e i b (inl g) = in-initiators p i b g
     old e i b (inr g) = in-initiators p i b (rw g e)
 
-    new : (i : ℕ) → i < 64 → (isInitiator p i ≡ true) ⊎ (i ≡ x .initiator) → List·Memᴰ i (x .initiator ∷ initiators p)
+    new : (i : ℕ) → i < 64 → (isInitiator p i ≡ true) ⊎ (i ≡ x .start) → List·Memᴰ i (x .start ∷ initiators p)
     new i b (inl g) = List·Memᴰ·tail (in-initiators p i b g)
     new i b (inr g) = List·Memᴰ·head g
 
-    go : (b : Bool) → isInitiator p (x .initiator) ≡ b → length (initiators q) ≤ 8
+    go : (b : Bool) → isInitiator p (x .start) ≡ b → length (initiators q) ≤ 8
     go true e = omega (arith, among (initiators p) (old e))
     go false e =
         let n : leb 8 (length (initiators p)) || leb 128 (length (p .paths)) ≡ false = rw e at h in
-        omega (arith, leb-false 8 (length (initiators p)) ((neither (leb 8 (length (initiators p))) (leb 128 (length (p .paths))) n) .0), among (x .initiator ∷ initiators p) new)
+        omega (arith, leb-false 8 (length (initiators p)) ((neither (leb 8 (length (initiators p))) (leb 128 (length (p .paths))) n) .0), among (x .start ∷ initiators p) new)
 
 pub most-grows : (p : Plan) (x : Route) → tooMany p (path x) ≡ false → length (p .paths) < 128
 unfolding tooMany
-most-grows p x h = leb-false 128 (length (p .paths)) ((neither (not (isInitiator p (x .initiator)) && leb 8 (length (initiators p))) (leb 128 (length (p .paths))) h) .1)
+most-grows p x h = leb-false 128 (length (p .paths)) ((neither (not (isInitiator p (x .start)) && leb 8 (length (initiators p))) (leb 128 (length (p .paths))) h) .1)
 
 -- a plan with few initiators and paths begins with the paths of p and the path x: row 9 does not hold of x after p
-pub few-before : (p q : Plan) (x : Route) → x .initiator < 64 → Begins (p .paths ++ (x ∷ [])) (q .paths) → length (initiators q) ≤ 8 → length (q .paths) ≤ 128 → tooMany p (path x) ≡ false
+pub few-before : (p q : Plan) (x : Route) → x .start < 64 → Begins (p .paths ++ (x ∷ [])) (q .paths) → length (initiators q) ≤ 8 → length (q .paths) ≤ 128 → tooMany p (path x) ≡ false
 unfolding tooMany isInitiator twice repeats
-few-before p q x b (zs, e) l n = false-either (go (isInitiator p (x .initiator)) refl) (lt-leb 128 (length (p .paths)) room)
+few-before p q x b (zs, e) l n = false-either (go (isInitiator p (x .start)) refl) (lt-leb 128 (length (p .paths)) room)
   where
     room : length (p .paths) < 128
     room = omega (arith, simp length-append at (ap length e))
@@ -92,16 +92,16 @@ few-before p q x b (zs, e) l n = false-either (go (isInitiator p (x .initiator))
     kept : (i : ℕ) → isInitiator p i ≡ true → isInitiator q i ≡ true
     kept i h = any-begins _ (p .paths) (q .paths) ((x ∷ []) ++ zs, sym (append-assoc (p .paths) (x ∷ []) zs) ∙ e) h
 
-    mine : isInitiator q (x .initiator) ≡ true
-    mine = any-intro _ (q .paths) x (begins-last (p .paths) x (zs, e)) (eq-eqb (x .initiator) (x .initiator) refl)
+    mine : isInitiator q (x .start) ≡ true
+    mine = any-intro _ (q .paths) x (begins-last (p .paths) x (zs, e)) (eq-eqb (x .start) (x .start) refl)
 
-    among : (i : ℕ) → List·Memᴰ i (x .initiator ∷ initiators p) → List·Memᴰ i (initiators q)
+    among : (i : ℕ) → List·Memᴰ i (x .start ∷ initiators p) → List·Memᴰ i (initiators q)
     among i (List·Memᴰ·head h) = in-initiators q i (omega arith) (rw h mine)
     among i (List·Memᴰ·tail m) = in-initiators q i (initiator-below p i m) (kept i (initiator-in p i m))
 
-    once : isInitiator p (x .initiator) ≡ false → twice (x .initiator ∷ initiators p) ≡ false
-    once h = false-either (any-none (eqb (x .initiator)) (initiators p) (λ i m. ne-eqb (x .initiator) i (λ g. not-both (initiator-in p i m) (rw g at h)))) (initiators-once p)
+    once : isInitiator p (x .start) ≡ false → twice (x .start ∷ initiators p) ≡ false
+    once h = false-either (any-none (eqb (x .start)) (initiators p) (λ i m. ne-eqb (x .start) i (λ g. not-both (initiator-in p i m) (rw g at h)))) (initiators-once p)
 
-    go : (a : Bool) → isInitiator p (x .initiator) ≡ a → not (isInitiator p (x .initiator)) && leb 8 (length (initiators p)) ≡ false
+    go : (a : Bool) → isInitiator p (x .start) ≡ a → not (isInitiator p (x .start)) && leb 8 (length (initiators p)) ≡ false
     go true h = rw h
-    go false h = rw h (lt-leb 8 (length (initiators p)) (omega (arith, fewer (x .initiator ∷ initiators p) (initiators q) among (once h))))
+    go false h = rw h (lt-leb 8 (length (initiators p)) (omega (arith, fewer (x .start ∷ initiators p) (initiators q) among (once h))))

@@ -19,7 +19,7 @@ given-link p l = any-same _ _ (p .links) (λ m _. eqb-sym (l .num) (m .num))
 
 pub given-path : (p : Plan) (x : Route) → givenBefore p (path x) ≡ any (λ (y : Route). samePathEnds y x) (p .paths)
 unfolding givenBefore hasPath leadsFrom samePathEnds
-given-path p x = any-same _ _ (p .paths) (λ y _. rw (eqb-sym (x .initiator) (y .initiator), eqb-sym (x .target) (y .target)))
+given-path p x = any-same _ _ (p .paths) (λ y _. rw (eqb-sym (x .start) (y .start), eqb-sym (x .end) (y .end)))
 
 pub given-entry : (p : Plan) (e : Entry) → givenBefore p (entry e) ≡ any (λ (f : Entry). sameEntryPlace f e) (p .entries) || twice (e .targets)
 unfolding givenBefore standsAt sameEntryPlace

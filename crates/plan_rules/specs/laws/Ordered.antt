@@ -10,7 +10,7 @@ use borrow.Author.Tests.{le-ltb, ne-eqb}
 use Rattle.lists.specs.Search.{find}
 use Rattle.lists.specs.laws.Bools.{false-either}
 use Rattle.lists.specs.laws.Append.{Begins, begins-self, begins-last, once-before}
-use Rattle.plan_rules.specs.Plan.{Device, Link, Route, Entry, Timing, Plan, blank, Item, device, link, path, entry, timing, grow}
+use Rattle.plan_rules.specs.Plan.{Device, Link, Route, Entry, Timing, Plan, blank, withDevices, withLinks, withPaths, withEntries, Item, device, link, path, entry, timing, grow}
 use Rattle.plan_rules.specs.Fields.{tags, tagOf, comesOnce, tagFor}
 use Rattle.plan_rules.specs.Judge.{givenBefore, tooMany}
 use Rattle.plan_rules.specs.Canon.{items}
@@ -49,16 +49,16 @@ module _ {A : Type 0} (make : A → Item) (n : ℕ) (so-far : List A → Plan) (
 
 -- the plan so far, while its devices, links, paths or entries are read
 abbrev devicesOnly : List Device → Plan
-devicesOnly ds = record { devices = ds; links = []; paths = []; entries = []; timings = [] }
+devicesOnly ds = withDevices ds blank
 
 abbrev plusLinks : Plan → List Link → Plan
-plusLinks p ls = record { devices = p .devices; links = ls; paths = []; entries = []; timings = [] }
+plusLinks p ls = withLinks ls (devicesOnly (p .devices))
 
 abbrev plusPaths : Plan → List Route → Plan
-plusPaths p xs = record { devices = p .devices; links = p .links; paths = xs; entries = []; timings = [] }
+plusPaths p xs = withPaths xs (plusLinks p (p .links))
 
 abbrev plusEntries : Plan → List Entry → Plan
-plusEntries p es = record { devices = p .devices; links = p .links; paths = p .paths; entries = es; timings = [] }
+plusEntries p es = withEntries es (plusPaths p (p .paths))
 
 module _ (p : Plan) (good : Good p) where
   -- rows 6, 8, 10 and 11 of an item, in a plan that has the items of smaller tags
@@ -103,7 +103,7 @@ module _ (p : Plan) (good : Good p) where
           fine-item (plusPaths p xs) (path x) m
           (record { devices = λ _. begins-self (p .devices); links = λ _. begins-self (p .links); paths = λ h. absurd (omega arith) })
           (given-path (plusPaths p xs) x ∙ once-before samePathEnds xs x (p .paths) b (good .paths))
-          (few-before (plusPaths p xs) p x ((route-range x (good .ranges (path x) m)) .initiator) b (good .eight) (good .most))
+          (few-before (plusPaths p xs) p x ((route-range x (good .ranges (path x) m)) .start) b (good .eight) (good .most))
 
   entry-stage : (before : ℕ) → before ≤ 3 → Led (plusEntries p []) before (map entry (p .entries)) (plusEntries p (p .entries)) 4
   unfolding tagFor grow comesOnce tagOf tags find tooMany
@@ -117,7 +117,7 @@ module _ (p : Plan) (good : Good p) where
           (given-entry (plusEntries p es) e ∙ false-either (once-before sameEntryPlace es e (p .entries) b (good .entries)) (good .targets e m)) refl
 
   timing-stage : (before : ℕ) → before ≤ 4 → Led (plusEntries p (p .entries)) before (map timing (p .timings)) p 5
-  unfolding tagFor grow givenBefore tooMany
+  unfolding tagFor grow givenBefore tooMany blank
   timing-stage before h = go (p .timings) refl
     where
       go : (ts : List Timing) → p .timings ≡ ts → Led (plusEntries p (p .entries)) before (map timing ts) p 5

@@ -27,10 +27,10 @@ pub record LinkRange (l : Link) : Type 0 where
   pub apart : l .one ≢ l .other
 
 pub record RouteRange (x : Route) : Type 0 where
-  pub initiator : x .initiator < 64
-  pub target : x .target < 64
+  pub start : x .start < 64
+  pub end : x .end < 64
   pub links : Below64 (x .links)
-  pub apart : x .initiator ≢ x .target
+  pub apart : x .start ≢ x .end
 
 pub record EntryRange (e : Entry) : Type 0 where
   pub initiator : e .initiator < 64
@@ -68,14 +68,14 @@ link-range l h =
 pub route-range : (x : Route) → outOfRange (path x) ≡ false → RouteRange x
 unfolding outOfRange
 route-range x h =
-    let a = neither (over63 (x .initiator) || over63 (x .target) || any over63 (x .links)) (eqb (x .initiator) (x .target)) h in
-    let b = neither (over63 (x .initiator) || over63 (x .target)) (any over63 (x .links)) (a .0) in
-    let c = neither (over63 (x .initiator)) (over63 (x .target)) (b .0) in
+    let a = neither (over63 (x .start) || over63 (x .end) || any over63 (x .links)) (eqb (x .start) (x .end)) h in
+    let b = neither (over63 (x .start) || over63 (x .end)) (any over63 (x .links)) (a .0) in
+    let c = neither (over63 (x .start)) (over63 (x .end)) (b .0) in
     record {
-      initiator = small (x .initiator) (c .0);
-      target = small (x .target) (c .1);
+      start = small (x .start) (c .0);
+      end = small (x .end) (c .1);
       links = all-small (x .links) (b .1);
-      apart = eqb-false (x .initiator) (x .target) (a .1);
+      apart = eqb-false (x .start) (x .end) (a .1);
     }
 
 pub entry-range : (e : Entry) → outOfRange (entry e) ≡ false → EntryRange e

@@ -85,7 +85,7 @@ module _ {p q : Plan} (s : SamePlan p q) where
   same-notGiven x y (devices e) = refl
   same-notGiven x y (links {l} {m} e) = rw (same-isDevice s (l .one), same-isDevice s (l .other))
       (ap not (same-ends (λ a b. isDevice q a && isDevice q b) (λ a b. and-comm (isDevice q a) (isDevice q b)) l m e))
-  same-notGiven x y (paths {x = a} {y = b} e) = rw (e, same-isNode s (b .initiator), same-isNode s (b .target), fun-ext (same-isLink s))
+  same-notGiven x y (paths {x = a} {y = b} e) = rw (e, same-isNode s (b .start), same-isNode s (b .end), fun-ext (same-isLink s))
   same-notGiven x y (entries {e = a} {f = b} e) = rw (e .initiator, same-isNode s (b .initiator), fun-ext (same-isNode s), all-shuffled (isNode q) (eq-respects _) (e .targets))
   same-notGiven x y (timings e) = refl
 
@@ -101,7 +101,7 @@ module _ {p q : Plan} (s : SamePlan p q) where
   unfolding noWalk
   same-noWalk u x y (devices e) = refl
   same-noWalk u x y (links e) = refl
-  same-noWalk u x y (paths {x = a} {y = b} e) = rw (e, same-isWalk s u (b .initiator) (b .links) (b .target))
+  same-noWalk u x y (paths {x = a} {y = b} e) = rw (e, same-isWalk s u (b .start) (b .links) (b .end))
   same-noWalk u x y (entries e) = refl
   same-noWalk u x y (timings e) = refl
 
@@ -121,7 +121,7 @@ good-same {p} {q} s g = record {
   ranges = same-each s _ _ false same-outOfRange (g .ranges);
   devices = sym (key-repeats (s .devices) (λ d. d .num) (eq-respects _)) ∙ g .devices;
   links = sym (key-repeats (s .links) (λ l. l .num) (λ l m h. h .num)) ∙ g .links;
-  paths = sym (pair-repeats (s .paths) (λ x. x .initiator) (λ x. x .target) (eq-respects _) (eq-respects _)) ∙ g .paths;
+  paths = sym (pair-repeats (s .paths) (λ x. x .start) (λ x. x .end) (eq-respects _) (eq-respects _)) ∙ g .paths;
   entries = sym (pair-repeats (s .entries) (λ e. e .initiator) (λ e. e .slot) (λ e f h. h .initiator) (λ e f h. h .slot)) ∙ g .entries;
   targets = each-shuffled (λ e. twice (e .targets) ≡ false) (λ e f h k. sym (key-repeats (h .targets) (λ t. t) (eq-respects _)) ∙ k) (s .entries) (g .targets);
   known = same-each s _ _ false (same-notGiven s) (g .known);

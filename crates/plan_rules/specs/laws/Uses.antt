@@ -19,8 +19,8 @@ on-path p i t l = (there, back)
     there : uses p i t l ≡ true → OnPath p i t l
     there h =
         let (x, m, g) = any-elim _ (p .paths) h in
-        let a = both-true (eqb i (x .initiator) && eqb t (x .target)) (isIn l (x .links)) g in
-        let b = both-true (eqb i (x .initiator)) (eqb t (x .target)) (a .0) in
+        let a = both-true (eqb i (x .start) && eqb t (x .end)) (isIn l (x .links)) g in
+        let b = both-true (eqb i (x .start)) (eqb t (x .end)) (a .0) in
         record { route = x; has = m; from = eqb-true _ _ (b .0); to = eqb-true _ _ (b .1); on = isIn-elim l (x .links) (a .1) }
 
     back : OnPath p i t l → uses p i t l ≡ true

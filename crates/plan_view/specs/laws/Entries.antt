@@ -20,7 +20,7 @@ use Rattle.plan_rules.specs.laws.Spans.{fits-by-least}
 use Rattle.plan_rules.specs.laws.Runs.{StandsAt, entry-at}
 use Rattle.plan_memory.specs.Memory.{ofRow, spanOf, aimOf}
 use Rattle.plan_memory.specs.laws.InRows.{of-row, of-no-row}
-use Rattle.plan_view.specs.View.{Owner, ownerOf, Tells}
+use Rattle.plan_view.specs.View.{Owner, ownerOf, Tells, owner}
 
 -- what is read at row r and slot v
 abbrev pub spanRead : Plan → ℕ → ℕ → ℕ
@@ -34,7 +34,7 @@ unfoldable pub entryIn : Plan → ℕ → ℕ → Option Entry
 entryIn p r v = elim (atPlace r (initiators p)) [ none ↦ none | some i ↦ entryAt (p .entries) i v ]
 
 -- the initiator of a row owns it
-pub owner-at : (p : Plan) (r i : ℕ) → atPlace r (initiators p) ≡ some i → ownerOf p r ≡ record { plan = p; initiator = i }
+pub owner-at : (p : Plan) (r i : ℕ) → atPlace r (initiators p) ≡ some i → ownerOf p r ≡ owner p i
 unfolding ownerOf ofRow
 owner-at p r i at = rw (at, ownerOf, ofRow)
 
@@ -50,7 +50,7 @@ module _ (p : Plan) (ok : Sound p) (r i : ℕ) (row : atPlace r (initiators p) �
   span-is : (o : Option Entry) → entryAt (p .entries) i v ≡ o → span ≡ spanOf o
   span-is o h = is ∙ of-row p r i _ row ∙ ap spanOf h
 
-  pub entry-told : (e : Entry) → entryAt (p .entries) i v ≡ some e → (targets : ℕ) → targets ≡ targetsRead p r v → (span ≢ 0) × Tells (record { plan = p; initiator = i }) targets span e
+  pub entry-told : (e : Entry) → entryAt (p .entries) i v ≡ some e → (targets : ℕ) → targets ≡ targetsRead p r v → (span ≢ 0) × Tells (owner p i) targets span e
   unfolding spanOf aimOf
   entry-told e h targets ts = (
     λ z. omega (arith, span-is (some e) h, ok .some-span e here),

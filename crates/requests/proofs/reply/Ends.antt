@@ -10,7 +10,7 @@ use Rattle.lists.specs.Rows.{firstOf}
 use Rattle.lists.specs.Place.{atPlace}
 use Rattle.plan_rules.specs.Plan.{Plan}
 use Rattle.plan_rules.specs.Meaning.{initiators}
-use Rattle.plan_view.specs.View.{Timed, Owner, ownerOf}
+use Rattle.plan_view.specs.View.{Timed, Owner, owner, ownerOf}
 use Rattle.box_rules.specs.declared.Event.the-variants.{Reply}
 use Rattle.box_rules.specs.declared.Answer.{Answer}
 use Rattle.box_rules.specs.declared.Watchdog.{Watchdog}
@@ -69,7 +69,7 @@ module _
       unfolding repliedAnswer repliedSide accepts
       ends r size part twelve does =
           go (isSome ((b .side i) .live)) refl (isLiveNumber m ((b .side i) .live)) refl
-          (on-row b run last (f .runs) i row at (repliedAnswer m status) (repliedSide m) r size part (f .fit) low twelve (does (record { plan = thePlan b; initiator = i })))
+          (on-row b run last (f .runs) i row at (repliedAnswer m status) (repliedSide m) r size part (f .fit) low twelve (does (owner (thePlan b) i)))
         where
           go : (y : Bool) → isSome ((b .side i) .live) ≡ y → (z : Bool) → isLiveNumber m ((b .side i) .live) ≡ z
               → (r ≡ repliedAnswer m status (b .side i)) × (take (row * 12) run ++ (part ++ drop size (drop (row * 12) run)) ≡ rowsWith (ownerOf (thePlan b)) (changed row (repliedSide m (b .side i)) (sideOf (thePlan b) (b .side))))

@@ -13,7 +13,7 @@ use Rattle.lists.specs.Place.{atPlace}
 use Rattle.lists.specs.laws.Bools.{cond-cases}
 use Rattle.plan_rules.specs.Plan.{Plan}
 use Rattle.plan_rules.specs.Meaning.{isInitiator, initiators, leastSpan}
-use Rattle.plan_view.specs.View.{Timed, Owner, ownerOf}
+use Rattle.plan_view.specs.View.{Timed, owner, ownerOf}
 use Rattle.box_rules.specs.declared.Event.the-variants.{Request}
 use Rattle.box_rules.specs.declared.Answer.{Answer}
 use Rattle.box_rules.specs.declared.Answer.the-variants.{Refused}
@@ -90,8 +90,8 @@ module _
 
           -- the request's row, lent and back
           pub asks : (r : Answer) (size : ℕ) (part : List ℕ) → size ≡ 12
-              → ((p : Plan) (s : Side) → FitSide s → need ≡ leastSpan p i t n → take size (drop (row * 12) run) ≡ rowOf (record { plan = p; initiator = i }) s
-              → (r ≡ askedAnswer s) × (part ≡ rowOf (record { plan = p; initiator = i }) (askedSide t k n s)))
+              → ((p : Plan) (s : Side) → FitSide s → need ≡ leastSpan p i t n → take size (drop (row * 12) run) ≡ rowOf (owner p i) s
+              → (r ≡ askedAnswer s) × (part ≡ rowOf (owner p i) (askedSide t k n s)))
               → Gives r (take (row * 12) run ++ (part ++ drop size (drop (row * 12) run)))
           unfolding askedAnswer askedSide accepts
           asks r size part twelve does =

@@ -26,7 +26,7 @@ use Rattle.plan_rules.specs.laws.Uses.{on-path}
 use Rattle.plan_rules.specs.laws.Fair.{Fair}
 use Rattle.plan_memory.specs.Memory.{pathsInOrder, pathsOf}
 use Rattle.slot_links.specs.Lanes.{linksAt, leadsOver}
-use Rattle.plan_memory.specs.laws.PathRows.{path-count, to-order, path-at, links-most, initiator-byte, target-byte, count-byte, link-bytes}
+use Rattle.plan_memory.specs.laws.PathRows.{path-count, to-order, path-at, links-most, start-byte, end-byte, count-byte, link-bytes}
 
 -- the part that is lent for path number k
 pub links-part : (paths : List ℕ) (k size : ℕ) → size ≡ min (getD paths (k * 11 + 2) 0) 8 → take ((k * 11 + 3 + size) - (k * 11 + 3)) (drop (k * 11 + 3) paths) ≡ linksAt paths k
@@ -87,10 +87,10 @@ module _ (p : Plan) (fair : Fair p) where
           let (k, low, e) = any-true all test h in
           let (x, at) = at-some (pathsInOrder p) k (omega (arith, as-many)) in
           let (a, b, c, d) = (leads-over (pathsOf p) i targets l k) .0 e in
-          let t = target-byte p (fair .lengths) (fair .ranges) k x at in (
-            x .target,
+          let t = end-byte p (fair .lengths) (fair .ranges) k x at in (
+            x .end,
             rw t at b,
-            (on-path p i (x .target) l) .1 (record { route = x; has = path-at p (fair .lengths) (fair .ranges) k x at; from = sym a ∙ initiator-byte p (fair .lengths) (fair .ranges) k x at; to = refl; on = subst (List·Memᴰ l) (links-are k x at) c }),
+            (on-path p i (x .end) l) .1 (record { route = x; has = path-at p (fair .lengths) (fair .ranges) k x at; from = sym a ∙ start-byte p (fair .lengths) (fair .ranges) k x at; to = refl; on = subst (List·Memᴰ l) (links-are k x at) c }),
           )
 
       back : (t : ℕ) × (member t targets ≡ true) × (uses p i t l ≡ true) → anyBelow all test ≡ true
@@ -100,8 +100,8 @@ module _ (p : Plan) (fair : Fair p) where
           let (k, low, at) = member-at (pathsInOrder p) x (to-order p (fair .lengths) (fair .ranges) x (o .has)) in
           any-below all test k (omega (arith, as-many, fair .lists .paths .most))
           ((leads-over (pathsOf p) i targets l k) .1 (
-            initiator-byte p (fair .lengths) (fair .ranges) k x at ∙ sym (o .from),
-            rw (target-byte p (fair .lengths) (fair .ranges) k x at, ← (o .to)) m,
+            start-byte p (fair .lengths) (fair .ranges) k x at ∙ sym (o .from),
+            rw (end-byte p (fair .lengths) (fair .ranges) k x at, ← (o .to)) m,
             subst (List·Memᴰ l) (sym (links-are k x at)) (o .on),
             (path-ranged p (fair .ranges) x (o .has)) .links l (o .on),
           ))
