@@ -32,9 +32,9 @@ use Rattle.plan_rules.specs.laws.InRange.{path-ranged, entry-ranged}
 use Rattle.plan_rules.specs.laws.Uses.{on-path}
 use Rattle.plan_rules.specs.laws.Clashes.{May, may-use, mine, yours, both-use, clash-in-is, clash-in-none}
 use Rattle.plan_rules.specs.laws.Fair.{Fair}
-use Rattle.overruns.specs.declared.Search.the-variants.{Nothing, Found}
+use Rattle.plan_rules.specs.declared.Search.the-variants.{Nothing, Found}
 use Rattle.plan_memory.specs.Memory.{rowsOf, pathsOf, spansOf, aimsOf, numbersWith}
-use Rattle.overruns.specs.Found.{searchOf}
+use Rattle.plan_rules.specs.Verdict.{searchOf}
 use Rattle.slot_links.specs.Lanes.{laneOf, lanesOf, Searched}
 use Rattle.clashes.specs.Clashes.{meets, leastCommon}
 use Rattle.overruns.specs.laws.Entries.{RowOf, rows-rise, row-reads, row-small, entry-row}

@@ -7,10 +7,10 @@ ghost use Rattle.plan_rules.specs.Plan.{Plan};
 ghost use Rattle.plan_rules.specs.Judge.{overrun, clashIn, clash};
 ghost use Rattle.plan_rules.specs.laws.Fair.{Fair};
 ghost use Rattle.plan_memory.specs.Memory.{rowsOf, pathsOf, spansOf, aimsOf, numbersWith};
-ghost use Rattle.overruns.specs.Found.{searchOf};
+ghost use Rattle.plan_rules.specs.Verdict.{searchOf};
 ghost use Rattle.slot_links.specs.Lanes.{Searched};
 ghost use Rattle.clashes.specs.Clashes.{meets, leastCommon};
-use overruns::Search;
+use plan_rules::Search;
 use plan_rules::Verdict;
 use slot_links::lanes_in;
 

@@ -26,7 +26,7 @@ use Rattle.plan_rules.specs.laws.Ranges.{EntryRange, entry-range}
 use Rattle.plan_rules.specs.laws.Entries.{path-initiator, entry-ranges, entry-initiator, entries-most}
 use Rattle.plan_memory.specs.Memory.{setsOf, rowsOf, reachOf, spansOf, aimsOf, numbersWith}
 use Rattle.plan_memory.specs.Take.{itemFault, taken}
-use Rattle.items.specs.laws.Rows.{isRow, row-place, row-none, reach-at}
+use Rattle.plan_view.specs.laws.Among.{isRow, row-place, row-none, reach-at}
 use Rattle.items.specs.laws.Numbers.{initiators-told, numbers-entry}
 use Rattle.items.specs.laws.Sets.{node-told}
 use Rattle.entries.proofs.Slots.{span-some, span-none, spans-entry, aims-entry}

@@ -20,7 +20,7 @@ use Rattle.plan_rules.specs.Plan.{nth, Entry, Plan, entry, grow}
 use Rattle.plan_rules.specs.Meaning.{isInitiator, initiators, standsAt, entryAt}
 use Rattle.plan_memory.specs.Memory.{ofRow, spanOf, spansOf, aimOf, aimsOf}
 use Rattle.plan_memory.specs.laws.InRows.{of-row, slot-cell}
-use Rattle.items.specs.laws.Rows.{row-once}
+use Rattle.plan_view.specs.laws.Among.{row-once}
 
 -- the array that has what g says of the entry at each row and slot
 abbrev slots : (Option Entry → ℕ) → Plan → List ℕ

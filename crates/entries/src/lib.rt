@@ -11,7 +11,7 @@ ghost use Rattle.plan_rules.specs.Judge.{over63, outOfRange};
 ghost use Rattle.plan_rules.specs.laws.Fair.{Fair};
 ghost use Rattle.plan_memory.specs.Memory.{setsOf, rowsOf, reachOf, spansOf, aimsOf, numbersWith};
 ghost use Rattle.plan_memory.specs.Take.{itemFault, taken, entryItem};
-use items::rows::row_of;
+use plan_view::rows::row_among;
 use items::several::gather;
 use plan_memory::at_most;
 
@@ -76,7 +76,7 @@ pub fn entry(
         return 6;
     }
     let count = numbers[2];
-    let row = row_of(rows, count, initiator);
+    let row = row_among(rows, count, initiator);
     let at = row * 64 + slot as usize;
     let known = row < at_most(count, 8);
     if known {

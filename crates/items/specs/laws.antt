@@ -1,4 +1,3 @@
-pub mod Rows
 pub mod Numbers
 pub mod Sets
 pub mod Ranges

@@ -1,3 +1,2 @@
-// What the items of a plan share: the rows of the initiators, and the numbers of a field gone through once.
-pub mod rows;
+// What the items of a plan share: the numbers of a field gone through once.
 pub mod several;

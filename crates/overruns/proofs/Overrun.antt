@@ -24,9 +24,9 @@ use Rattle.plan_rules.specs.Judge.{overrun}
 use Rattle.plan_rules.specs.Words.{Overrunning, pair}
 use Rattle.plan_rules.specs.laws.Overruns.{overrun-says, overrun-none}
 use Rattle.plan_rules.specs.laws.Fair.{Fair}
-use Rattle.overruns.specs.declared.Search.the-variants.{Nothing, Found}
+use Rattle.plan_rules.specs.declared.Search.the-variants.{Nothing, Found}
 use Rattle.plan_memory.specs.Memory.{rowsOf, spansOf}
-use Rattle.overruns.specs.Found.{searchOf}
+use Rattle.plan_rules.specs.Verdict.{searchOf}
 use Rattle.overruns.specs.Overruns.{cellAt, standsAfter, runsAt}
 use Rattle.overruns.specs.laws.Entries.{RowOf, rows-rise, row-reads, fair-entry, entry-row, entry-span, cell-entry}
 

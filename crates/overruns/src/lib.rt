@@ -6,15 +6,10 @@ ghost use Rattle.plan_rules.specs.Plan.{Plan};
 ghost use Rattle.plan_rules.specs.Judge.{overrun};
 ghost use Rattle.plan_rules.specs.laws.Fair.{Fair};
 ghost use Rattle.plan_memory.specs.Memory.{rowsOf, spansOf, numbersWith};
-ghost use Rattle.overruns.specs.Found.{searchOf};
+ghost use Rattle.plan_rules.specs.Verdict.{searchOf};
 ghost use Rattle.overruns.specs.Overruns.{runsOn, runsAt};
+use plan_rules::Search;
 use plan_rules::Verdict;
-
-// What a search over the whole plan finds.
-pub enum Search {
-    Nothing,
-    Found { verdict: Verdict },
-}
 
 // Whether another entry of the row stands in one of the span - 1 slots after the slot.
 fn runs_on(spans: &[u8; 512], row: usize, slot: usize, span: u8) -> bool

@@ -23,7 +23,7 @@ use Rattle.plan_rules.specs.laws.Ranges.{Below64}
 use Rattle.plan_rules.specs.laws.Initiators.{initiator-in}
 use Rattle.plan_memory.specs.Memory.{setsOf, endsOf, rowsOf, reachOf, numbersWith}
 use Rattle.plan_memory.specs.Take.{itemFault, pathItem}
-use Rattle.items.specs.Rows.{rowAmong}
+use Rattle.plan_view.specs.Rows.{rowAmong}
 use Rattle.path_faults.specs.laws.PathRows.{RowRead, row-read, reach-read, no-paths}
 
 -- 6, test by test

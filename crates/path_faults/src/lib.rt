@@ -8,7 +8,7 @@ ghost use Rattle.plan_rules.specs.Judge.{over63, outOfRange};
 ghost use Rattle.plan_rules.specs.laws.Fair.{Fair};
 ghost use Rattle.plan_memory.specs.Memory.{setsOf, endsOf, rowsOf, reachOf, numbersWith};
 ghost use Rattle.plan_memory.specs.Take.{itemFault, pathItem};
-ghost use Rattle.items.specs.Rows.{rowAmong};
+ghost use Rattle.plan_view.specs.Rows.{rowAmong};
 use walks::trace;
 
 // Verdict 6 of a path, over being whether a link is over 63.

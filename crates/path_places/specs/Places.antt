@@ -7,7 +7,7 @@ use lib.ListN.{set}
 use lib.Dec.{ltb, eqb}
 use Rattle.lists.specs.Insert.{putIn, pastLast}
 use Rattle.plan_rules.specs.Plan.{nth}
-use Rattle.items.specs.Rows.{rowAmong}
+use Rattle.plan_view.specs.Rows.{rowAmong}
 
 -- where a row of i goes among the first count rows: behind the last with a smaller initiator
 abbrev pub rowPlace : List ℕ → ℕ → ℕ → ℕ

@@ -5,7 +5,7 @@ ghost use Prim.Native.Nat.{ℕ, _≤_, _<_};
 ghost use lib.ListN.{length};
 ghost use Rattle.lists.specs.Insert.{putIn};
 ghost use Rattle.plan_rules.specs.Plan.{nth};
-ghost use Rattle.items.specs.Rows.{rowAmong};
+ghost use Rattle.plan_view.specs.Rows.{rowAmong};
 ghost use Rattle.path_places.specs.Places.{rowPlace, ownRow, withRow, withCount, precedesAt, IsPlace};
 
 // Makes a row for a new initiator, at its place among the first count rows, with no path yet; answers the row.

@@ -9,9 +9,9 @@ ghost use Rattle.plan_rules.specs.laws.Fair.{Fair};
 ghost use Rattle.plan_memory.specs.Memory.{setsOf, endsOf, rowsOf, reachOf, pathRow, pathsOf, numbersWith};
 ghost use Rattle.plan_memory.specs.Take.{itemFault, taken, pathItem};
 ghost use Rattle.paths.specs.Keep.{route, keptReach, keptPaths, keptNumbers};
-ghost use Rattle.items.specs.Rows.{rowAmong};
+ghost use Rattle.plan_view.specs.Rows.{rowAmong};
 ghost use Rattle.path_places.specs.Places.{withRow, IsPlace};
-use items::rows::row_of;
+use plan_view::rows::row_among;
 use path_faults::path_fault;
 use path_places::own_row;
 use path_places::place_of;
@@ -100,7 +100,7 @@ pub fn path(
         × (now (paths .exit) ≡ pathsOf (taken p (pathItem initiator target (now (links .entry)))))
         × (now (numbers .exit) ≡ numbersWith size (taken p (pathItem initiator target (now (links .entry)))))) ⌝ }
 {
-    let row = row_of(rows, numbers[2], initiator);
+    let row = row_among(rows, numbers[2], initiator);
     let fault = path_fault(
         sets,
         ends,

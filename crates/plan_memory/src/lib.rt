@@ -9,3 +9,12 @@ pub fn at_most(count: u32, places: usize) -> usize
     let n = count as usize;
     if n < places { n } else { places }
 }
+
+// `numbers`: least and greatest interval, how many initiators, paths and entries there are, the size of the plan written out.
+pub type Numbers = [u32; 6];
+pub const LEAST: usize = 0;
+pub const GREATEST: usize = 1;
+pub const INITIATORS: usize = 2;
+pub const PATHS: usize = 3;
+pub const ENTRIES: usize = 4;
+pub const SIZE: usize = 5;

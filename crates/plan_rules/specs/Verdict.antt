@@ -1,8 +1,11 @@
 -- "Verdicts": the numbers and places of document 01 for each case of the declared verdict.
 use Prim.Native.Nat.{ℕ}
 use mathlib.Core.List.{List, [], _∷_}
+use mathlib.Core.Option.{Option, none, some}
 use Rattle.plan_rules.specs.declared.Verdict.{Verdict}
 use Rattle.plan_rules.specs.declared.Verdict.the-variants.{Accepted, Faulty, Overrun, Clash}
+use Rattle.plan_rules.specs.declared.Search.{Search}
+use Rattle.plan_rules.specs.declared.Search.the-variants.{Nothing, Found}
 
 unfoldable pub number : Verdict → ℕ
 number (Accepted d l p e) = 0
@@ -16,3 +19,8 @@ place (Accepted d l p e) = d ∷ l ∷ p ∷ e ∷ []
 place (Faulty n at) = at ∷ []
 place (Overrun i s) = i ∷ s ∷ []
 place (Clash s i j l) = s ∷ i ∷ j ∷ l ∷ []
+
+-- what a search over the whole plan answers in the code
+unfoldable pub searchOf : Option Verdict → Search
+searchOf none = Nothing
+searchOf (some v) = Found v

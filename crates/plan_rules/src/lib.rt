@@ -30,6 +30,12 @@ pub enum Verdict {
     },
 }
 
+// What a search over the whole plan finds: a verdict, or nothing. `searchOf` of specs/Verdict.
+pub enum Search {
+    Nothing,
+    Found { verdict: Verdict },
+}
+
 // What writing out answers: refusal 20 or 30, or the size. `sized` of specs/Copy gives document 01's number and size.
 pub enum Copied {
     NotWritten { number: u8 },

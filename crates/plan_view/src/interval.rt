@@ -6,24 +6,27 @@ ghost use Rattle.lists.specs.Search.{isSome};
 ghost use Rattle.plan_rules.specs.Plan.{Plan};
 ghost use Rattle.plan_memory.specs.Memory.{leastOf, greatestOf, numbersWith};
 ghost use Rattle.plan_view.specs.View.{Timed};
+use plan_memory::GREATEST;
+use plan_memory::LEAST;
+use plan_memory::Numbers;
 
 // An accepted plan's greatest interval is 1 at least.
-pub fn is_loaded(numbers: &[u32; 6]) -> bool
+pub fn is_loaded(numbers: &Numbers) -> bool
     ensures { λ r. ⌜ ((o : Option Plan) → Timed o (now (numbers .entry)) → r ≡ isSome o) ⌝ }
 {
-    numbers[1] != 0
+    numbers[GREATEST] != 0
 }
 
 // The least interval between time-codes, 0 where there is no plan.
-pub fn least_interval(numbers: &[u32; 6]) -> u32
+pub fn least_interval(numbers: &Numbers) -> u32
     ensures { λ r. ⌜ ((size : ℕ) (p : Plan) → now (numbers .entry) ≡ numbersWith size p → r ≡ leastOf (p .timings)) ⌝ }
 {
-    numbers[0]
+    numbers[LEAST]
 }
 
 // The greatest interval between time-codes, 0 where there is no plan.
-pub fn greatest_interval(numbers: &[u32; 6]) -> u32
+pub fn greatest_interval(numbers: &Numbers) -> u32
     ensures { λ r. ⌜ ((size : ℕ) (p : Plan) → now (numbers .entry) ≡ numbersWith size p → r ≡ greatestOf (p .timings)) ⌝ }
 {
-    numbers[1]
+    numbers[GREATEST]
 }

@@ -2,3 +2,4 @@
 pub mod entry;
 pub mod interval;
 pub mod row;
+pub mod rows;

@@ -10,7 +10,7 @@ ghost use Rattle.initiators.specs.Memory.{Finds, Answers};
 use crate::no_row::no_row;
 use box_rules::Answer;
 use ending::end_row;
-use plan_view::row::row_of;
+use plan_view::row::row_for;
 
 pub fn reply(
     rows: &[u8; 8],
@@ -24,7 +24,7 @@ pub fn reply(
     ensures { λ r. ⌜ ((b : Box) (spans aims last : List ℕ) → Finds b (now (rows .entry)) spans aims (now (numbers .entry)) (now (run .entry)) last →
         (room : ℕ) (w : Watchdog) → Answers (rules.step room b w (Reply initiator number status)) r (now (run .exit)) last) ⌝ }
 {
-    let row = row_of(rows, numbers, initiator);
+    let row = row_for(rows, numbers, initiator);
     if 8 <= row {
         return no_row(numbers);
     }

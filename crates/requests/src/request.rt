@@ -14,7 +14,7 @@ use asking::ask_row;
 use asking::may_start;
 use box_rules::Answer;
 use plan_view::entry::least_span;
-use plan_view::row::row_of;
+use plan_view::row::row_for;
 
 // 24 "length over 4,096", 25 "no entry of this initiator permits the target …". What an entry permits is never longer: only where none does
 // is 24 told from 25.
@@ -42,7 +42,7 @@ pub fn request(
     ensures { λ r. ⌜ ((b : Box) (last : List ℕ) → Finds b (now (rows .entry)) (now (spans .entry)) (now (aims .entry)) (now (numbers .entry)) (now (run .entry)) last →
         (room : ℕ) (w : Watchdog) → Answers (rules.step room b w (Request initiator target kind length)) r (now (run .exit)) last) ⌝ }
 {
-    let row = row_of(rows, numbers, initiator);
+    let row = row_for(rows, numbers, initiator);
     if 8 <= row {
         return no_row(numbers);
     }

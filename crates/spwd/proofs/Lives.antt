@@ -124,4 +124,4 @@ live-by-record-only ok only before after e answer b came s r low n = go (only b 
     go (inr (v, m)) =
         let f′ = (h′ .finds .fit .sides (x .initiator)) .live (x .live) (x .is) in
         let own = initiator-row (after .memory) (o .box) h′ r (x .initiator) (x .place) in
-        inr (rw (own, word, request-told (x .initiator) (x .live .request) (f′ .request)) (start-in size b w e (outcome ok b e s h) (x .initiator) v (x .live .request) m))
+        inr (rw (own, word, request-told (owner (thePlan b) (x .initiator)) (x .live .request) (f′ .request)) (start-in size b w e (outcome ok b e s h) (x .initiator) v (x .live .request) m))

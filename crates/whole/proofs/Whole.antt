@@ -12,8 +12,8 @@ use Rattle.plan_rules.specs.laws.Ranges.{timing-range}
 use Rattle.plan_rules.specs.laws.Items.{timing-in}
 use Rattle.plan_rules.specs.laws.Fair.{Fair}
 use Rattle.plan_rules.specs.laws.Size.{most-entries}
-use Rattle.overruns.specs.declared.Search.the-variants.{Nothing, Found}
-use Rattle.overruns.specs.Found.{searchOf}
+use Rattle.plan_rules.specs.declared.Search.the-variants.{Nothing, Found}
+use Rattle.plan_rules.specs.Verdict.{searchOf}
 use Rattle.plan_memory.specs.Memory.{greatestOf, numbersWith, numbersOf}
 
 -- the intervals: the greatest is 0 where there are none

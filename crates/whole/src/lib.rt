@@ -8,7 +8,7 @@ ghost use Rattle.plan_rules.specs.Canon.{given};
 ghost use Rattle.plan_rules.specs.laws.Fair.{Fair};
 ghost use Rattle.plan_memory.specs.Memory.{setsOf, rowsOf, pathsOf, spansOf, aimsOf, numbersWith, numbersOf};
 use clashes::find_clash;
-use overruns::Search;
+use plan_rules::Search;
 use overruns::find_overrun;
 use plan_rules::Verdict;
 

@@ -6,7 +6,7 @@ use native.Mathlib.Omega.{arith}
 use lib.ListN.{getD}
 use borrow.Author.Needs.{needs}
 use Rattle.plan_rules.specs.declared.Verdict.the-variants.{Clash}
-use Rattle.overruns.specs.declared.Search.the-variants.{Found}
+use Rattle.plan_rules.specs.declared.Search.the-variants.{Found}
 use Rattle.clashes.proofs.Clash.{Apart, apart-more, clash-found, clash-nothing}
 use Rattle.clashes.proofs.clash_in.Statement.{statement}
 use Rattle.clashes.proofs.clash_in.Tie as tie

@@ -15,7 +15,7 @@ use Rattle.sets.specs.Laws.{within-listed}
 use Rattle.plan_rules.specs.Plan.{nth, Entry, entry}
 use Rattle.plan_rules.specs.Judge.{outOfRange}
 use Rattle.plan_rules.specs.laws.Ranges.{entry-range}
-use Rattle.items.specs.laws.Rows.{row-most}
+use Rattle.plan_view.specs.laws.Among.{row-most}
 use Rattle.entries.proofs.Ranges.{targets-inside}
 use Rattle.entries.proofs.Entries.{Lent, rowsIn, allIn, Sought, Free, entry-refused, entry-again, entry-twice, entry-no-row, entry-no-path, entry-taken}
 use Rattle.entries.proofs.entry.Statement.{statement}
@@ -50,11 +50,11 @@ in-range : (e : tie.After-entry-range) → e .entry-range .result ≡ outOfRange
 in-range e = e .entry-range .ensures (e .before .before .before .args .targets .now) (e .before .gather .ensures .0)
 
 -- past it
-sought : (k : tie.After-row-of) → Sought (lent (start k)) (asked (start k)) (k .row-of .result)
-sought k = record { inside = sym (in-range (k .before .before .before)) ∙ k .before .before .if1 .left; found = k .row-of .ensures }
+sought : (k : tie.After-row-of) → Sought (lent (start k)) (asked (start k)) (k .row-among .result)
+sought k = record { inside = sym (in-range (k .before .before .before)) ∙ k .before .before .if1 .left; found = k .row-among .ensures }
 
-row-upto : (k : tie.After-row-of) → k .row-of .result ≤ 8
-row-upto k = let m = lent (start k) in row-most (m .rows) (nth (m .numbers) 2) (start k .args .initiator) (k .row-of .result) (k .row-of .ensures)
+row-upto : (k : tie.After-row-of) → k .row-among .result ≤ 8
+row-upto k = let m = lent (start k) in row-most (m .rows) (nth (m .numbers) 2) (start k .args .initiator) (k .row-among .result) (k .row-among .ensures)
 
 slot-in : (k : tie.After-row-of) → start k .args .slot < 64
 slot-in k = (entry-range (asked (start k)) (sought k .inside)) .slot
@@ -75,14 +75,14 @@ targets-within : (k : tie.After-row-of) (w : ℕ) → withinOf (gathered k .gath
 targets-within k w = within-listed (asked (start k) .targets) (gathered k .gather .result .set) w (targets-low k) (told k .1)
 
 -- whether there is a row, from the test that the code makes
-has-row : (k : tie.After-at-most) → ltb (k .before .row-of .result) (k .at-most .result) ≡ true → k .before .row-of .result < rowsIn (lent (start (k .before)))
-has-row k h = omega (arith, ltb-true (k .before .row-of .result) (k .at-most .result) h, k .at-most .ensures)
+has-row : (k : tie.After-at-most) → ltb (k .before .row-among .result) (k .at-most .result) ≡ true → k .before .row-among .result < rowsIn (lent (start (k .before)))
+has-row k h = omega (arith, ltb-true (k .before .row-among .result) (k .at-most .result) h, k .at-most .ensures)
 
-no-row : (k : tie.After-at-most) → ltb (k .before .row-of .result) (k .at-most .result) ≡ false → rowsIn (lent (start (k .before))) ≤ k .before .row-of .result
-no-row k h = omega (arith, ltb-false (k .before .row-of .result) (k .at-most .result) h, k .at-most .ensures)
+no-row : (k : tie.After-at-most) → ltb (k .before .row-among .result) (k .at-most .result) ≡ false → rowsIn (lent (start (k .before))) ≤ k .before .row-among .result
+no-row k h = omega (arith, ltb-false (k .before .row-among .result) (k .at-most .result) h, k .at-most .ensures)
 
 -- past the tests of row 7
-free : (t : tie.Else4) → Free (lent (start (row t))) (asked (start (row t))) (row t .row-of .result)
+free : (t : tie.Else4) → Free (lent (start (row t))) (asked (start (row t))) (row t .row-among .result)
 free t = record {
   sought = sought (row t);
   alone = λ h. ⊎-elim (λ w. w .2 .left) (λ w. absurd (omega (arith, h, no-row (t .before .before) (w .left)))) (t .before .if2 .came);
@@ -90,10 +90,10 @@ free t = record {
 }
 
 -- past the test for a row: it is one of the eight, and the index one of the 512
-there : (m : tie.Else5) → row (m .before) .row-of .result < rowsIn (lent (start (row (m .before))))
+there : (m : tie.Else5) → row (m .before) .row-among .result < rowsIn (lent (start (row (m .before))))
 there m = has-row (m .before .before .before) (not-false _ (m .if5 .left))
 
-index-in : (m : tie.Else5) → let k = row (m .before) in k .row-of .result * 64 + start k .args .slot < 512
+index-in : (m : tie.Else5) → let k = row (m .before) in k .row-among .result * 64 + start k .args .slot < 512
 index-in m = omega (arith, there m, slot-in (row (m .before)))
 
 gather-requires : tie.Need-gather-requires
@@ -108,8 +108,8 @@ returns c = let s = c .before .before .before .before in entry-refused (lent s) 
 element-copy-out-count : tie.Need-element-copy-out-count
 element-copy-out-count c = search needs
 
-row-of-requires : tie.Need-row-of-requires
-row-of-requires c κs = search needs
+row-among-requires : tie.Need-row-among-requires
+row-among-requires c κs = search needs
 
 mul-at : tie.Need-mul-at
 mul-at c = omega (arith, row-upto c)
@@ -191,7 +191,7 @@ entry-spec =
     entry-range-requires
     returns
     element-copy-out-count
-    row-of-requires
+    row-among-requires
     mul-at
     add-at
     at-most-requires

@@ -7,7 +7,7 @@ use lib.ListN.{getD}
 use borrow.Author.Needs.{needs}
 use Rattle.lists.specs.Numbers.{firstFrom}
 use Rattle.plan_rules.specs.declared.Verdict.the-variants.{Overrun}
-use Rattle.overruns.specs.declared.Search.the-variants.{Found}
+use Rattle.plan_rules.specs.declared.Search.the-variants.{Found}
 use Rattle.overruns.specs.Overruns.{runsAt}
 use Rattle.overruns.specs.laws.Entries.{rows-counted}
 use Rattle.overruns.proofs.Overrun.{Clean, clean-more, overrun-found, overrun-nothing}

@@ -23,7 +23,7 @@ use Rattle.plan_rules.specs.Plan.{nth, Route, Plan}
 use Rattle.plan_rules.specs.Meaning.{isInitiator, initiators, leadsFrom, hasPath}
 use Rattle.plan_rules.specs.laws.Initiators.{in-initiators}
 use Rattle.plan_memory.specs.Memory.{rowsOf, ofRow, reachOf}
-use Rattle.items.specs.Rows.{rowAmong}
+use Rattle.plan_view.specs.Rows.{rowAmong}
 
 -- r is the row of initiator i, or their number where i is none
 pub record RowRead (p : Plan) (i r : ℕ) : Type 0 where

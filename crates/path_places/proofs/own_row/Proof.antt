@@ -3,7 +3,7 @@ use mathlib.Core.Path.{_≡_, sym, _∙_}
 use mathlib.Core.Logic.{_≢_}
 use native.Mathlib.Omega.{arith}
 use Rattle.plan_rules.specs.Plan.{nth}
-use Rattle.items.specs.Rows.{rowAmong}
+use Rattle.plan_view.specs.Rows.{rowAmong}
 use Rattle.path_places.specs.laws.OwnRow.{old-row, old-array, made-row, made-array, old-count, new-count}
 use borrow.Author.Needs.{needs}
 use Rattle.path_places.proofs.own_row.Statement.{statement}

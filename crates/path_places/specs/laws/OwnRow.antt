@@ -10,7 +10,7 @@ use borrow.Author.Tests.{eq-eqb, ne-eqb}
 use Rattle.lists.specs.Insert.{putIn}
 use Rattle.lists.specs.laws.Bools.{cond-cases}
 use Rattle.plan_rules.specs.Plan.{nth}
-use Rattle.items.specs.Rows.{rowAmong}
+use Rattle.plan_view.specs.Rows.{rowAmong}
 use Rattle.path_places.specs.Places.{rowPlace, isNew, ownRow, withRow, withCount}
 
 module _ (rows : List ℕ) (count i : ℕ) (d : rowAmong rows count i ≢ count) where

@@ -13,8 +13,8 @@ use Rattle.paths.proofs.path.Tie as tie
 element-copy-out-row-of : tie.Need-element-copy-out-row-of
 element-copy-out-row-of c = search needs
 
-row-of-requires : tie.Need-row-of-requires
-row-of-requires c κs = search needs
+row-among-requires : tie.Need-row-among-requires
+row-among-requires c κs = search needs
 
 path-fault-requires : tie.Need-path-fault-requires
 path-fault-requires c κs = search needs
@@ -31,7 +31,7 @@ keep-path-requires : tie.Need-keep-path-requires
 keep-path-requires c κs =
     let n = c .before .before .before .before in
     let r = n .before .path-fault .ensures .1 (n .if1 .left) in
-    (n .before .before .before .before .before .row-of .ensures, r .0, r .1, n .before .before .before .before .before .before .before .before .before .pre)
+    (n .before .before .before .before .before .row-among .ensures, r .0, r .1, n .before .before .before .before .before .before .before .before .before .pre)
 
 returns-2 : tie.Need-returns-2
 returns-2 c = λ size p f a b d e h g.
@@ -42,4 +42,4 @@ returns-2 c = λ size p f a b d e h g.
     kept-plan size p f x (sym (n .if1 .left) ∙ r) (s .pre) d e h g (c .keep-path .ensures)
 
 pub path-spec : {M : Type 1} → statement M
-path-spec = tie.close (tie.spec element-copy-out-row-of row-of-requires path-fault-requires returns keep-path-requires returns-2)
+path-spec = tie.close (tie.spec element-copy-out-row-of row-among-requires path-fault-requires returns keep-path-requires returns-2)

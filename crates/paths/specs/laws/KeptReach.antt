@@ -26,7 +26,7 @@ use Rattle.plan_rules.specs.laws.Chain.{Passes}
 use Rattle.plan_rules.specs.laws.Initiators.{initiator-in, initiators-once, eight-grows}
 use Rattle.plan_memory.specs.Memory.{rowsOf, ofRow, reachOf}
 use Rattle.paths.specs.Keep.{keptReach}
-use Rattle.items.specs.Rows.{rowAmong}
+use Rattle.plan_view.specs.Rows.{rowAmong}
 use Rattle.sets.specs.Laws.{added-below}
 use Rattle.path_faults.specs.laws.PathRows.{reach-some, no-paths}
 use Rattle.paths.specs.laws.GrownPath.{own-hasPath, other-hasPath, kept-initiators}

@@ -25,7 +25,7 @@ use Rattle.plan_rules.specs.laws.Ranges.{route-range}
 use Rattle.plan_rules.specs.laws.Initiators.{initiator-in}
 use Rattle.plan_memory.specs.Memory.{rowsOf, numbersWith}
 use Rattle.paths.specs.Keep.{keptNumbers}
-use Rattle.items.specs.Rows.{rowAmong}
+use Rattle.plan_view.specs.Rows.{rowAmong}
 use Rattle.path_places.specs.Places.{rowPlace, withRow}
 use Rattle.path_faults.specs.laws.PathRows.{RowRead, row-read}
 use Rattle.paths.specs.laws.GrownPath.{kept-initiators, one-initiator}

@@ -11,7 +11,7 @@ use Rattle.plan_rules.specs.laws.Verdicts.{without-timing, with-overrun, with-c
 use Rattle.plan_rules.specs.laws.Whole.{Clean, clean-counts}
 use Rattle.plan_rules.specs.laws.Accepted.{file-fair, clean-good}
 use Rattle.plan_memory.specs.Memory.{numbersOf}
-use Rattle.overruns.specs.Found.{searchOf}
+use Rattle.plan_rules.specs.Verdict.{searchOf}
 use Rattle.whole.proofs.Whole.{without, with-them, few, found, found-nothing}
 use Rattle.whole.proofs.judge_whole.Statement.{statement}
 use Rattle.whole.proofs.judge_whole.Tie as tie

@@ -6,15 +6,15 @@ use borrow.Author.Needs.{needs}
 use Rattle.requests.proofs.reply.reply.Statement.{statement}
 use Rattle.requests.proofs.reply.reply.Tie as tie
 
-row-of-requires : tie.Need-row-of-requires
-row-of-requires c κs = search needs
+row-for-requires : tie.Need-row-for-requires
+row-for-requires c κs = search needs
 
 no-row-requires : tie.Need-no-row-requires
 no-row-requires c κs = search needs
 
 returns : tie.Need-returns
 returns c =
-    let r = c .before .before .row-of in
+    let r = c .before .before .row-for in
     let a = c .before .before .before .before .args in
     λ b spans aims last f room w. stranger f room w (a .initiator) (a .number) (a .status) (r .result) (r .ensures) (c .before .if1 .taken) (c .no-row .result) (c .no-row .ensures)
 
@@ -48,7 +48,7 @@ same-length c = search needs
 returns-2 : tie.Need-returns-2
 returns-2 c =
     let m = c .before .before .end-row in
-    let r = c .before .before .before .before .before .row-of in
+    let r = c .before .before .before .before .before .row-for in
     let a = c .before .before .before .before .before .before .before .args in
     let size = r .result * 12 + 12 - r .result * 12 in
     λ b spans aims last f room w. ends f room w (a .initiator) (a .number) (a .status) (r .result) (r .ensures) (omega arith) (m .result) size (m .last .0) (omega arith) (m .ensures)
@@ -57,7 +57,7 @@ pub reply-spec : {M : Type 1} → statement M
 reply-spec =
     tie.close
     (tie.spec
-    row-of-requires
+    row-for-requires
     no-row-requires
     returns
     mul-end-row

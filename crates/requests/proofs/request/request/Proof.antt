@@ -7,21 +7,21 @@ use borrow.Author.Needs.{needs}
 use Rattle.requests.proofs.request.request.Statement.{statement}
 use Rattle.requests.proofs.request.request.Tie as tie
 
-row-of-requires : tie.Need-row-of-requires
-row-of-requires c κs = search needs
+row-for-requires : tie.Need-row-for-requires
+row-for-requires c κs = search needs
 
 no-row-requires : tie.Need-no-row-requires
 no-row-requires c κs = search needs
 
 returns : tie.Need-returns
 returns c =
-    let r = c .before .before .row-of in
+    let r = c .before .before .row-for in
     let a = c .before .before .before .before .args in
     λ b last f room w. stranger f room w (a .initiator) (a .target) (a .kind) (a .length) (r .result) (r .ensures) (c .before .if1 .taken) (c .no-row .result) (c .no-row .ensures)
 
 returns-2 : tie.Need-returns-2
 returns-2 c =
-    let r = c .before .before .row-of in
+    let r = c .before .before .row-for in
     let a = c .before .before .before .before .args in
     λ b last f room w. other-kind f room w (a .initiator) (a .target) (a .kind) (a .length) (r .result) (r .ensures) (omega arith) (c .if2 .taken)
 
@@ -38,7 +38,7 @@ returns-3 : tie.Need-returns-3
 returns-3 c =
     let y = c .before .before .may-start in
     let n = c .before .before .before .least-span in
-    let r = c .before .before .before .before .before .before .row-of in
+    let r = c .before .before .before .before .before .before .row-for in
     let a = c .before .before .before .before .before .before .before .before .args in
     λ b last f room w.
     barred f room w (a .initiator) (a .target) (a .kind) (a .length) (r .result) (r .ensures) (omega arith) (omega arith) (n .result) (n .ensures) (y .result) (y .ensures)
@@ -76,7 +76,7 @@ returns-4 c =
     let m = c .before .before .ask-row in
     let y = c .before .before .before .before .before .may-start in
     let n = c .before .before .before .before .before .before .least-span in
-    let r = c .before .before .before .before .before .before .before .before .before .row-of in
+    let r = c .before .before .before .before .before .before .before .before .before .row-for in
     let a = c .before .before .before .before .before .before .before .before .before .before .before .args in
     let size = r .result * 12 + 12 - r .result * 12 in
     λ b last f room w.
@@ -87,7 +87,7 @@ pub request-spec : {M : Type 1} → statement M
 request-spec =
     tie.close
     (tie.spec
-    row-of-requires
+    row-for-requires
     no-row-requires
     returns
     returns-2

@@ -6,9 +6,9 @@ use borrow.Author.Needs.{needs}
 use borrow.Author.Tests.{eq-eqb, ne-eqb}
 use Rattle.lists.specs.Numbers.{firstFrom}
 use Rattle.lists.specs.laws.Scan.{first-here, first-next, first-end}
-use Rattle.items.specs.laws.Rows.{isRow}
-use Rattle.items.proofs.rows.first_row.Statement.{statement}
-use Rattle.items.proofs.rows.first_row.Tie as tie
+use Rattle.plan_view.specs.laws.Among.{isRow}
+use Rattle.plan_view.proofs.rows.first_row.Statement.{statement}
+use Rattle.plan_view.proofs.rows.first_row.Tie as tie
 
 abbrev Inv-loop : tie.InvT-loop
 Inv-loop rows i k₀ k = firstFrom 8 0 (isRow rows i) ≡ firstFrom (8 - k) k (isRow rows i)

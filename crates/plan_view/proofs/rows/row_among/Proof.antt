@@ -1,4 +1,4 @@
--- `items::rows::row_of` meets its contract: the search through the first rows ends where that through all of them does, or behind them.
+-- `row_among` meets its contract: the search through the first rows ends where that through all of them does, or behind them.
 -- Assumes nothing.
 use mathlib.Core.Path.{_≡_, refl, sym, ap, _∙_}
 use mathlib.Core.Bool.{Bool}
@@ -9,9 +9,9 @@ use borrow.Author.Needs.{needs}
 use Rattle.lists.specs.Numbers.{firstFrom}
 use Rattle.lists.specs.laws.Bools.{not-both}
 use Rattle.lists.specs.laws.Numbers.{Finds, first-from}
-use Rattle.items.specs.laws.Rows.{isRow}
-use Rattle.items.proofs.rows.row_of.Statement.{statement}
-use Rattle.items.proofs.rows.row_of.Tie as tie
+use Rattle.plan_view.specs.laws.Among.{isRow}
+use Rattle.plan_view.proofs.rows.row_among.Statement.{statement}
+use Rattle.plan_view.proofs.rows.row_among.Tie as tie
 
 module _ (t : ℕ → Bool) (m n : ℕ) (h : m ≤ n) where
   some-first : Finds m 0 t (firstFrom m 0 t)
@@ -59,5 +59,5 @@ returns-2 c =
     let t = isRow (a .rows .now) (a .i) in
     b .first-row .ensures ∙ among t (min (a .count) 8) 8 (omega arith) (omega (arith, c .if1 .left, m, b .first-row .ensures))
 
-pub row-of-spec : {M : Type 1} → statement M
-row-of-spec = tie.close (tie.spec at-most-requires first-row-requires returns returns-2)
+pub row-among-spec : {M : Type 1} → statement M
+row-among-spec = tie.close (tie.spec at-most-requires first-row-requires returns returns-2)

@@ -1,9 +1,10 @@
 // The rows of the initiators: the place of each among the initiators of the plan, which stand rising.
 ghost use mathlib.Core.Path.{_≡_};
-ghost use Prim.Native.Nat.{ℕ, min};
+ghost use Prim.Native.Nat.{ℕ};
 ghost use lib.Dec.{eqb};
 ghost use Rattle.lists.specs.Numbers.{firstFrom};
 ghost use Rattle.plan_rules.specs.Plan.{nth};
+ghost use Rattle.plan_view.specs.Rows.{rowAmong};
 use plan_memory::at_most;
 
 // The first of all eight rows that has initiator i; 8 where none has it.
@@ -22,8 +23,8 @@ fn first_row(rows: &[u8; 8], i: u8) -> usize
 }
 
 // The row of initiator i among the first count rows (8 at most); that count where it has none. (The count is looked at once, at the end.)
-pub fn row_of(rows: &[u8; 8], count: u32, i: u8) -> usize
-    ensures { λ r. ⌜ r ≡ firstFrom (min count 8) 0 (λ (k : ℕ). eqb i (nth (now (rows .entry)) k)) ⌝ }
+pub fn row_among(rows: &[u8; 8], count: u32, i: u8) -> usize
+    ensures { λ r. ⌜ r ≡ rowAmong (now (rows .entry)) count i ⌝ }
 {
     let most = at_most(count, 8);
     let k = first_row(rows, i);
