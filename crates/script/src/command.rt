@@ -5,8 +5,8 @@ ghost use lib.ListN.{length, take, drop};
 ghost use Rattle.words.specs.Reading.{behindWord};
 ghost use Rattle.script.specs.Script.{load, alone, timeCode, request, reply, reading, writeOut, setWatchdog, commands, named, commandOf};
 use hex::is_bytes;
+use lists::bytes::same;
 use words::numbers;
-use words::same;
 use words::word_length;
 
 pub enum Command {
