@@ -6,7 +6,7 @@ use mathlib.Core.Bool.{true, false}
 use Prim.Native.Nat.{ℕ, _+_, _≤_, _<_}
 use native.Mathlib.Numerals.{add-one}
 use native.Mathlib.Omega.{arith}
-use lib.ListN.{length, getD, take}
+use lib.ListN.{length, getD, take, replicate, length-replicate, getD-replicate}
 use lib.Seq.{take-suc, take-all}
 use Rattle.lists.specs.laws.Answers.{it-is, it-is-not}
 
@@ -30,3 +30,20 @@ module _ {a b : List ℕ} {k : ℕ} (inv : Alike a b k) where
 
   pub alike-end : length a ≤ k → (true ≡ true) ↔ (a ≡ b)
   alike-end h = it-is (sym (take-all k a h) ∙ inv .equal ∙ take-all k b (omega (arith, inv .long)))
+
+-- a list compared with as many zeros
+abbrev pub zeros : List ℕ → List ℕ
+zeros s = replicate (length s) 0
+
+pub zeros-begin : (s : List ℕ) → Alike s (zeros s) 0
+zeros-begin s = alike-begin (sym (length-replicate (length s) 0))
+
+module _ {s : List ℕ} {k : ℕ} (inv : Alike s (zeros s) k) (h : k < length s) where
+  zero-here : getD (zeros s) k 0 ≡ 0
+  zero-here = getD-replicate (length s) k 0 0 h
+
+  pub other-than-zero : getD s k 0 ≢ 0 → (false ≡ true) ↔ (s ≡ zeros s)
+  other-than-zero n = other-here inv (λ e. n (e ∙ zero-here))
+
+  pub zeros-next : getD s k 0 ≡ 0 → Alike s (zeros s) (k + 1)
+  zeros-next e = alike-next inv h (e ∙ sym zero-here)
