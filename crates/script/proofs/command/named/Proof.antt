@@ -1,5 +1,5 @@
 -- `script::command::named` meets its contract. Assumes nothing.
-use mathlib.Core.Path.{sym, _∙_}
+use mathlib.Core.Path.{refl, sym, _∙_}
 use lib.ListN.{take, drop}
 use lib.Seq.{length-take-le}
 use borrow.Author.Needs.{needs}
@@ -7,7 +7,7 @@ use Rattle.plan_rules.specs.Print.{text}
 use Rattle.words.specs.Words.{same}
 use Rattle.words.specs.Reading.{behindWord}
 use Rattle.words.specs.laws.Words.{same-says}
-use Rattle.script.specs.Script.{commands, named}
+use Rattle.script.specs.Script.{mosts, commands, named}
 use Rattle.script.proofs.command.Names.{by-name, no-name}
 use Rattle.script.proofs.command.named.Statement.{statement}
 use Rattle.script.proofs.command.named.Tie as tie
@@ -15,65 +15,65 @@ use Rattle.script.proofs.command.named.Tie as tie
 returns : tie.Need-returns
 unfolding same text named commands
 returns c =
-    let s = c .before .before in
-    let a = s .before .before .before .before .args in
-    by-name (a .line .now) (a .end) (text "load") ((s .same .ensures .0) (c .before .if1 .taken)) (c .load .ensures)
+    let t = c .before in
+    let a = t .before .before .before .before .before .args in
+    by-name (a .line .now) (a .end) (text "load") ((t .before .same .ensures .0) (t .if1 .taken)) (c .load .ensures)
 
 returns-2 : tie.Need-returns-2
 unfolding same text named commands
 returns-2 c =
-    let s = c .before .before in
-    let a = s .before .before .before .before .before .before .before .args in
-    by-name (a .line .now) (a .end) (text "clear") ((s .same2 .ensures .0) (c .before .if2 .taken)) (c .alone .ensures)
+    let t = c .before in
+    let a = t .before .before .before .before .before .before .before .before .args in
+    by-name (a .line .now) (a .end) (text "clear") ((t .before .same2 .ensures .0) (t .if2 .taken)) (c .alone .ensures)
 
 returns-3 : tie.Need-returns-3
 unfolding same text named commands
 returns-3 c =
-    let s = c .before .before in
-    let a = s .before .before .before .before .before .before .before .before .before .before .args in
-    by-name (a .line .now) (a .end) (text "tc") ((s .same3 .ensures .0) (c .before .if3 .taken)) (c .time-code .ensures)
+    let t = c .before .before in
+    let a = t .before .before .before .before .before .before .before .before .before .before .before .args in
+    by-name (a .line .now) (a .end) (text "tc") ((t .before .same3 .ensures .0) (t .if3 .taken)) (c .numbered .ensures)
 
 returns-4 : tie.Need-returns-4
 unfolding same text named commands
 returns-4 c =
-    let s = c .before .before in
-    let a = s .before .before .before .before .before .before .before .before .before .before .before .before .before .args in
-    by-name (a .line .now) (a .end) (text "req") ((s .same4 .ensures .0) (c .before .if4 .taken)) (c .request .ensures)
+    let t = c .before .before in
+    let a = t .before .before .before .before .before .before .before .before .before .before .before .before .before .before .args in
+    by-name (a .line .now) (a .end) (text "req") ((t .before .same4 .ensures .0) (t .if4 .taken)) (c .numbered2 .ensures)
 
 returns-5 : tie.Need-returns-5
 unfolding same text named commands
 returns-5 c =
-    let s = c .before .before in
-    let a = s .before .before .before .before .before .before .before .before .before .before .before .before .before .before .before .before .args in
-    by-name (a .line .now) (a .end) (text "rep") ((s .same5 .ensures .0) (c .before .if5 .taken)) (c .reply .ensures)
+    let t = c .before .before in
+    let a = t .before .before .before .before .before .before .before .before .before .before .before .before .before .before .before .before .before .args in
+    by-name (a .line .now) (a .end) (text "rep") ((t .before .same5 .ensures .0) (t .if5 .taken)) (c .numbered3 .ensures)
 
 returns-6 : tie.Need-returns-6
 unfolding same text named commands
 returns-6 c =
-    let s = c .before .before in
-    let a = s .before .before .before .before .before .before .before .before .before .before .before .before .before .before .before .before .before .before .before .args in
-    by-name (a .line .now) (a .end) (text "clk") ((s .same6 .ensures .0) (c .before .if6 .taken)) (c .reading .ensures)
+    let t = c .before .before in
+    let a = t .before .before .before .before .before .before .before .before .before .before .before .before .before .before .before .before .before .before .before .before .args in
+    by-name (a .line .now) (a .end) (text "clk") ((t .before .same6 .ensures .0) (t .if6 .taken)) (c .numbered4 .ensures)
 
 returns-7 : tie.Need-returns-7
 unfolding same text named commands
 returns-7 c =
-    let s = c .before .before in
-    let a = s .before .before .before .before .before .before .before .before .before .before .before .before .before .before .before .before .before .before .before .before .before .before .args in
-    by-name (a .line .now) (a .end) (text "out") ((s .same7 .ensures .0) (c .before .if7 .taken)) (c .write-out .ensures)
+    let t = c .before .before in
+    let a = t .before .before .before .before .before .before .before .before .before .before .before .before .before .before .before .before .before .before .before .before .before .before .before .args in
+    by-name (a .line .now) (a .end) (text "out") ((t .before .same7 .ensures .0) (t .if7 .taken)) (c .numbered5 .ensures)
 
 returns-8 : tie.Need-returns-8
 unfolding same text named commands
 returns-8 c =
-    let s = c .before .before in
-    let a = s .before .before .before .before .before .before .before .before .before .before .before .before .before .before .before .before .before .before .before .before .before .before .before .before .before .args in
-    by-name (a .line .now) (a .end) (text "wd") ((s .same8 .ensures .0) (c .before .if8 .taken)) (c .alone2 .ensures)
+    let t = c .before in
+    let a = t .before .before .before .before .before .before .before .before .before .before .before .before .before .before .before .before .before .before .before .before .before .before .before .before .before .before .args in
+    by-name (a .line .now) (a .end) (text "wd") ((t .before .same8 .ensures .0) (t .if8 .taken)) (c .alone2 .ensures)
 
 returns-9 : tie.Need-returns-9
 unfolding same text named commands
 returns-9 c =
-    let s = c .before .before in
-    let a = s .before .before .before .before .before .before .before .before .before .before .before .before .before .before .before .before .before .before .before .before .before .before .before .before .before .before .before .before .args in
-    by-name (a .line .now) (a .end) (text "setwd") ((s .same9 .ensures .0) (c .before .if9 .taken)) (c .set-watchdog .ensures)
+    let t = c .before .before in
+    let a = t .before .before .before .before .before .before .before .before .before .before .before .before .before .before .before .before .before .before .before .before .before .before .before .before .before .before .before .before .before .args in
+    by-name (a .line .now) (a .end) (text "setwd") ((t .before .same9 .ensures .0) (t .if9 .taken)) (c .numbered6 .ensures)
 
 returns-10 : tie.Need-returns-10
 unfolding text
@@ -95,6 +95,7 @@ returns-10 c =
     (same-says name (text "out") (s7 .same7 .ensures) ∙ s8 .before .before .if7 .left) (same-says name (text "wd") (s8 .same8 .ensures) ∙ s9 .before .before .if8 .left) (same-says name (text "setwd") (s9 .same9 .ensures) ∙ c .if9 .left)
 
 pub named-spec : {M : Type 1} → statement M
+unfolding mosts
 named-spec =
     tie.close
     (tie.spec
@@ -109,23 +110,28 @@ named-spec =
     returns-2
     (λ c. search needs)
     (λ c κs. search needs)
-    (λ c κs. search needs)
+    (λ c. search needs)
+    (λ c κs. (c .before .before .before .before .before .before .before .before .before .before .before .before .pre, refl))
     returns-3
     (λ c. search needs)
     (λ c κs. search needs)
-    (λ c κs. search needs)
+    (λ c. search needs)
+    (λ c κs. (c .before .before .before .before .before .before .before .before .before .before .before .before .before .before .before .pre, refl))
     returns-4
     (λ c. search needs)
     (λ c κs. search needs)
-    (λ c κs. search needs)
+    (λ c. search needs)
+    (λ c κs. (c .before .before .before .before .before .before .before .before .before .before .before .before .before .before .before .before .before .before .pre, refl))
     returns-5
     (λ c. search needs)
     (λ c κs. search needs)
-    (λ c κs. search needs)
+    (λ c. search needs)
+    (λ c κs. (c .before .before .before .before .before .before .before .before .before .before .before .before .before .before .before .before .before .before .before .before .before .pre, refl))
     returns-6
     (λ c. search needs)
     (λ c κs. search needs)
-    (λ c κs. search needs)
+    (λ c. search needs)
+    (λ c κs. (c .before .before .before .before .before .before .before .before .before .before .before .before .before .before .before .before .before .before .before .before .before .before .before .before .pre, refl))
     returns-7
     (λ c. search needs)
     (λ c κs. search needs)
@@ -133,6 +139,7 @@ named-spec =
     returns-8
     (λ c. search needs)
     (λ c κs. search needs)
-    (λ c κs. c .before .before .before .before .before .before .before .before .before .before .before .before .before .before .before .before .before .before .before .before .before .before .before .before .before .before .before .before .before .pre)
+    (λ c. search needs)
+    (λ c κs. (c .before .before .before .before .before .before .before .before .before .before .before .before .before .before .before .before .before .before .before .before .before .before .before .before .before .before .before .before .before .before .pre, refl))
     returns-9
     returns-10)
