@@ -12,8 +12,8 @@ use Rattle.lists.specs.Place.{atPlace}
 use Rattle.lists.specs.Order.{inOrder}
 use Rattle.lists.specs.Cells.{cells, padded}
 use Rattle.sets.specs.Set.{packed}
-use Rattle.plan_rules.specs.Plan.{Link, Route, Entry, Timing, Plan}
-use Rattle.plan_rules.specs.Meaning.{hasKind, isLink, hasPath, initiators, entryAt}
+use Rattle.plan_rules.specs.Plan.{Link, Route, Entry, Plan}
+use Rattle.plan_rules.specs.Meaning.{hasKind, isLink, hasPath, initiators, entryAt, leastOf, greatestOf}
 use Rattle.plan_rules.specs.Canon.{written}
 
 -- `sets`: the nodes, the routers and the links that are given, each a word
@@ -67,14 +67,6 @@ aimsOf p = cells 512 (λ (n : ℕ). ofRow p (n / 64) (λ (i : ℕ). aimOf (entry
 
 -- `numbers`: least and greatest interval, how many initiators, paths and entries there are, and the size of the plan written out.
 -- A plan that is accepted has a greatest interval of 1 at least: that it is not 0 says that there is a plan.
-unfoldable pub leastOf : List Timing → ℕ
-leastOf [] = 0
-leastOf (t ∷ ts) = t .least
-
-unfoldable pub greatestOf : List Timing → ℕ
-greatestOf [] = 0
-greatestOf (t ∷ ts) = t .greatest
-
 unfoldable pub numbersWith : ℕ → Plan → List ℕ
 numbersWith size p =
     leastOf (p .timings)

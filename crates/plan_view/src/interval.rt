@@ -4,7 +4,8 @@ ghost use mathlib.Core.Option.{Option};
 ghost use Prim.Native.Nat.{ℕ};
 ghost use Rattle.lists.specs.Search.{isSome};
 ghost use Rattle.plan_rules.specs.Plan.{Plan};
-ghost use Rattle.plan_memory.specs.Memory.{leastOf, greatestOf, numbersWith};
+ghost use Rattle.plan_rules.specs.Meaning.{leastOf, greatestOf};
+ghost use Rattle.plan_memory.specs.Memory.{numbersWith};
 ghost use Rattle.plan_view.specs.View.{Timed};
 
 // An accepted plan's greatest interval is 1 at least.

@@ -14,7 +14,8 @@ use Rattle.plan_rules.specs.laws.Fair.{Fair}
 use Rattle.plan_rules.specs.laws.Size.{most-entries}
 use Rattle.overruns.specs.declared.Search.the-variants.{Nothing, Found}
 use Rattle.overruns.specs.Found.{searchOf}
-use Rattle.plan_memory.specs.Memory.{greatestOf, numbersWith, numbersOf}
+use Rattle.plan_rules.specs.Meaning.{greatestOf}
+use Rattle.plan_memory.specs.Memory.{numbersWith, numbersOf}
 
 -- the intervals: the greatest is 0 where there are none
 module _ (p : Plan) {w : List ℕ} (is : w ≡ numbersOf p) where

@@ -11,13 +11,13 @@ use Rattle.lists.specs.Place.{atPlace}
 use Rattle.lists.specs.Order.{inOrder}
 use Rattle.lists.specs.Cells.{cells, padded}
 use Rattle.sets.specs.Set.{packed, packedBelow}
-use Rattle.plan_rules.specs.Meaning.{hasKind, isLink, isInitiator, initiators, hasPath, entryAt}
+use Rattle.plan_rules.specs.Meaning.{hasKind, isLink, isInitiator, initiators, hasPath, entryAt, leastOf, greatestOf}
 use Rattle.plan_rules.specs.Canon.{items, written}
 use Rattle.plan_rules.specs.Plan.{nth, Timing, Plan, blank, timing}
 use Rattle.plan_rules.specs.Good.{Good}
 use Rattle.plan_rules.specs.laws.Items.{timing-in}
 use Rattle.plan_rules.specs.laws.Ranges.{timing-range}
-use Rattle.plan_memory.specs.Memory.{setsOf, endOf, endsOf, rowsOf, ofRow, reachOf, pathsInOrder, pathsOf, spansOf, aimsOf, leastOf, greatestOf, numbersWith, numbersOf, Holds}
+use Rattle.plan_memory.specs.Memory.{setsOf, endOf, endsOf, rowsOf, ofRow, reachOf, pathsInOrder, pathsOf, spansOf, aimsOf, numbersWith, numbersOf, Holds}
 
 -- every array of the blank plan is all 0
 pub holds-blank : Holds blank (replicate 3 0) (replicate 128 0) (replicate 8 0) (replicate 8 0) (replicate 1408 0) (replicate 512 0) (replicate 512 0) (replicate 6 0)

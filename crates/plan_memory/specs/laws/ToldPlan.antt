@@ -19,13 +19,13 @@ use Rattle.lists.specs.laws.OneOrder.{Among}
 use Rattle.sets.specs.Set.{member, packed}
 use Rattle.sets.specs.Packed.{member-packed-below}
 use Rattle.plan_rules.specs.Plan.{nth, Device, Link, Route, Timing, Plan, path}
-use Rattle.plan_rules.specs.Meaning.{hasKind, isLink, initiators}
+use Rattle.plan_rules.specs.Meaning.{hasKind, isLink, initiators, leastOf, greatestOf}
 use Rattle.plan_rules.specs.Judge.{outOfRange}
 use Rattle.plan_rules.specs.Canon.{smallFirst}
 use Rattle.plan_rules.specs.Good.{Good, Each, sameLinkNumber}
 use Rattle.plan_rules.specs.laws.InRange.{device-ranged, link-ranged}
 use Rattle.plan_memory.specs.laws.PathRows.{row-length, path-count, links-short}
-use Rattle.plan_memory.specs.Memory.{setsOf, endOf, endsOf, rowsOf, pathRow, pathsInOrder, pathsOf, leastOf, greatestOf, numbersWith, numbersOf}
+use Rattle.plan_memory.specs.Memory.{setsOf, endOf, endsOf, rowsOf, pathRow, pathsInOrder, pathsOf, numbersWith, numbersOf}
 
 -- a word tells the test that it was made of
 pub packed-told : (t u : ℕ → Bool) → packed t ≡ packed u → (k : ℕ) → k < 64 → t k ≡ u k

@@ -9,7 +9,8 @@ use lib.Dec.{eqb}
 use borrow.Author.Tests.{ne-eqb}
 use Rattle.lists.specs.Search.{isSome}
 use Rattle.plan_rules.specs.Plan.{nth, Plan, blank}
-use Rattle.plan_memory.specs.Memory.{leastOf, greatestOf, numbersWith, numbersOf}
+use Rattle.plan_rules.specs.Meaning.{leastOf, greatestOf}
+use Rattle.plan_memory.specs.Memory.{numbersWith, numbersOf}
 use Rattle.plan_view.specs.View.{Timed}
 
 module _ (size : ℕ) (p : Plan) (numbers : List ℕ) (is : numbers ≡ numbersWith size p) where

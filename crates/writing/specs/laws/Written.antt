@@ -19,7 +19,8 @@ use Rattle.plan_rules.specs.Copy.{copyRows, copyRefusal, copyAnswer, copied}
 use Rattle.plan_rules.specs.Good.{Good}
 use Rattle.plan_rules.specs.laws.Size.{most-bytes}
 use Rattle.plan_rules.specs.laws.Copies.{no-room, answers-size, puts-bytes}
-use Rattle.plan_memory.specs.Memory.{setsOf, endsOf, rowsOf, pathsOf, spansOf, aimsOf, leastOf, greatestOf, numbersWith, numbersOf}
+use Rattle.plan_rules.specs.Meaning.{leastOf, greatestOf}
+use Rattle.plan_memory.specs.Memory.{setsOf, endsOf, rowsOf, pathsOf, spansOf, aimsOf, numbersWith, numbersOf}
 use Rattle.plan_memory.specs.Held.{Held, HoldsPlan}
 use Rattle.plan_memory.specs.laws.BlankMemory.{good-not-blank}
 use Rattle.writing.specs.Out.{outBytes}
