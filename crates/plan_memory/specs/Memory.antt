@@ -77,11 +77,8 @@ numbersWith size p =
     ∷ size
     ∷ []
 
-unfoldable pub numbersOf : Plan → List ℕ
-numbersOf p = numbersWith (length (written p)) p
-
--- the eight arrays hold plan p
-pub record Holds (p : Plan) (sets′ ends′ rows′ reach′ paths′ spans′ aims′ numbers′ : List ℕ) : Type 0 where
+-- the eight arrays hold plan p, with any size for that of the plan written out
+pub record HoldsSized (size : ℕ) (p : Plan) (sets′ ends′ rows′ reach′ paths′ spans′ aims′ numbers′ : List ℕ) : Type 0 where
   pub sets : sets′ ≡ setsOf p
   pub ends : ends′ ≡ endsOf p
   pub rows : rows′ ≡ rowsOf p
@@ -89,4 +86,11 @@ pub record Holds (p : Plan) (sets′ ends′ rows′ reach′ paths′ spans′ 
   pub paths : paths′ ≡ pathsOf p
   pub spans : spans′ ≡ spansOf p
   pub aims : aims′ ≡ aimsOf p
-  pub numbers : numbers′ ≡ numbersOf p
+  pub numbers : numbers′ ≡ numbersWith size p
+
+-- with its own size
+abbrev pub numbersOf : Plan → List ℕ
+numbersOf p = numbersWith (length (written p)) p
+
+abbrev pub Holds : Plan → (sets′ ends′ rows′ reach′ paths′ spans′ aims′ numbers′ : List ℕ) → Type 0
+Holds p = HoldsSized (length (written p)) p

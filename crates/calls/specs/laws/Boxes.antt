@@ -50,7 +50,7 @@ abbrev fresh : ℕ → ℕ → Watchdog
 fresh least greatest = record { last = 0; seen = 0; reported = 0; least = least; greatest = greatest }
 
 pub load-watchdog : (file : List ℕ) {numbers : List ℕ} → numbers ≡ numbersOf (left file) → fresh (nth numbers 0) (nth numbers 1) ≡ watchdogLoaded file
-unfolding left watchdogLoaded watchdogFor watchdogCleared isAccepted planOf canonical blank numbersOf numbersWith leastOf greatestOf
+unfolding left watchdogLoaded watchdogFor watchdogCleared isAccepted planOf canonical blank numbersWith leastOf greatestOf
 load-watchdog file is = rw is (go (isAccepted file))
   where
     go : (x : Bool) → fresh (nth (numbersOf (cond x (given file) blank)) 0) (nth (numbersOf (cond x (given file) blank)) 1) ≡ cond x (watchdogFor (planOf file)) watchdogCleared
