@@ -2,51 +2,12 @@
 ghost use mathlib.Core.Path.{_≡_};
 ghost use mathlib.Core.Logic.{_↔_};
 ghost use mathlib.Core.Bool.{true};
-ghost use lib.ListN.{length, replicate};
+ghost use lib.ListN.{replicate};
 ghost use Rattle.plan_rules.specs.Plan.{blank};
 ghost use Rattle.plan_memory.specs.Memory as plan;
 ghost use Rattle.box_rules.specs.State.{cleared, watchdogCleared};
 ghost use Rattle.calls.specs.Box.{Holds};
 use box_rules::Watchdog;
-
-fn bytes_zero(bytes: &[u8]) -> bool
-    ensures { λ r. ⌜ (r ≡ true) ↔ (now (bytes .entry) ≡ replicate (length (now (bytes .entry))) 0) ⌝ }
-{
-    let mut i = 0;
-    while i < bytes.len() {
-        if bytes[i] != 0 {
-            return false;
-        }
-        i += 1;
-    }
-    true
-}
-
-fn numbers_zero(numbers: &[u32]) -> bool
-    ensures { λ r. ⌜ (r ≡ true) ↔ (now (numbers .entry) ≡ replicate (length (now (numbers .entry))) 0) ⌝ }
-{
-    let mut i = 0;
-    while i < numbers.len() {
-        if numbers[i] != 0 {
-            return false;
-        }
-        i += 1;
-    }
-    true
-}
-
-fn words_zero(words: &[u64]) -> bool
-    ensures { λ r. ⌜ (r ≡ true) ↔ (now (words .entry) ≡ replicate (length (now (words .entry))) 0) ⌝ }
-{
-    let mut i = 0;
-    while i < words.len() {
-        if words[i] != 0 {
-            return false;
-        }
-        i += 1;
-    }
-    true
-}
 
 // Whether plan memory holds no plan.
 fn plan_blank(
@@ -61,38 +22,38 @@ fn plan_blank(
 ) -> bool
     ensures { λ r. ⌜ (r ≡ true) ↔ plan.Holds blank (now (sets .entry)) (now (ends .entry)) (now (rows .entry)) (now (reach .entry)) (now (paths .entry)) (now (spans .entry)) (now (aims .entry)) (now (numbers .entry)) ⌝ }
 {
-    if !words_zero(sets) {
+    if !lists::words::zero(sets) {
         return false;
     }
-    if !bytes_zero(ends) {
+    if !lists::bytes::zero(ends) {
         return false;
     }
-    if !bytes_zero(rows) {
+    if !lists::bytes::zero(rows) {
         return false;
     }
-    if !words_zero(reach) {
+    if !lists::words::zero(reach) {
         return false;
     }
-    if !bytes_zero(paths) {
+    if !lists::bytes::zero(paths) {
         return false;
     }
-    if !bytes_zero(spans) {
+    if !lists::bytes::zero(spans) {
         return false;
     }
-    if !words_zero(aims) {
+    if !lists::words::zero(aims) {
         return false;
     }
-    numbers_zero(numbers)
+    lists::numbers::zero(numbers)
 }
 
 // Whether run memory has nothing waiting or live, and no time-code.
 fn run_blank(run: &[u64; 96], last: &[u8; 1]) -> bool
     ensures { λ r. ⌜ (r ≡ true) ↔ ((now (run .entry) ≡ replicate 96 0) × (now (last .entry) ≡ replicate 1 0)) ⌝ }
 {
-    if !words_zero(run) {
+    if !lists::words::zero(run) {
         return false;
     }
-    bytes_zero(last)
+    lists::bytes::zero(last)
 }
 
 fn watchdog_zero(w: Watchdog) -> bool

@@ -14,7 +14,7 @@ use Rattle.box_rules.specs.declared.Answer.the-variants.{Refused, Record
 use Rattle.box_rules.specs.declared.Watchdog.{Watchdog}
 use Rattle.box_rules.specs.State.{Box, loaded, watchdogLoaded}
 use Rattle.box_rules.specs.Records.{recordBytes}
-use Rattle.box_rules.specs.Step.{step}
+use Rattle.box_rules.specs.Step.{step, clockOf}
 
 unfoldable pub node : ℕ → Item
 node n = device (record { num = n; kind = 0 })
@@ -62,12 +62,6 @@ pub record Seen : Type 0 where
 pub data Shown : Type 0 where
   output : List ℕ → Shown
   answers : List Seen → Shown
-
-unfoldable pub clockOf : Event → ℕ
-clockOf (TimeCode byte clock) = clock
-clockOf (Request i t k n) = 0
-clockOf (Reply i m status) = 0
-clockOf (Reading clock) = 0
 
 unfoldable pub seen : Box → Watchdog → List Event → List Seen
 seen b w [] = []

@@ -5,7 +5,8 @@ use mathlib.Core.Option.{Option, none, some, Option·getD}
 use mathlib.Core.Bool.{Bool, not, cond}
 use lib.Dec.{eqb}
 use Rattle.lists.specs.Search.{isSome}
-use Rattle.plan_rules.specs.Plan.{Plan, Timing, blank}
+use Rattle.plan_rules.specs.Plan.{Plan, blank}
+use Rattle.plan_rules.specs.Meaning.{leastOf, greatestOf}
 use Rattle.plan_rules.specs.Verdict.{number}
 use Rattle.plan_rules.specs.Judge.{judge}
 use Rattle.plan_rules.specs.Canon.{planOf}
@@ -75,12 +76,9 @@ watchdogCleared = record { last = 0; seen = 0; reported = 0; least = 0; greatest
 unfoldable pub holding : Plan → Box
 holding p = record { plan = some p; last = none; side = λ i. idle }
 
-unfoldable pub timingOf : Plan → Timing
-timingOf p = elim (p .timings) [ [] ↦ record { least = 0; greatest = 0 } | t ∷ ts ↦ t ]
-
 -- "An accepted load sets the last two from the plan and the others to 0"
 unfoldable pub watchdogFor : Plan → Watchdog
-watchdogFor p = record { last = 0; seen = 0; reported = 0; least = (timingOf p) .least; greatest = (timingOf p) .greatest }
+watchdogFor p = record { last = 0; seen = 0; reported = 0; least = leastOf (p .timings); greatest = greatestOf (p .timings) }
 
 unfoldable pub isAccepted : List ℕ → Bool
 isAccepted file = eqb (number (judge file)) 0

@@ -53,3 +53,10 @@ step room b w e =
       | true ↦ accepts b w e
       | false ↦ record { answer = Refused (refusal room b e); box = b; watchdog = w; records = [] }
     ]
+
+-- the clock that comes with an event, 0 for none
+unfoldable pub clockOf : Event → ℕ
+clockOf (TimeCode byte clock) = clock
+clockOf (Request i t k n) = 0
+clockOf (Reply i m status) = 0
+clockOf (Reading clock) = clock

@@ -9,8 +9,8 @@ use Rattle.box_rules.specs.declared.Event.{Event}
 use Rattle.box_rules.specs.declared.Answer.{Answer}
 use Rattle.box_rules.specs.declared.Watchdog.{Watchdog}
 use Rattle.box_rules.specs.State.{Box, cleared, loaded, watchdogCleared, watchdogLoaded}
-use Rattle.box_rules.specs.Step.{step}
-use Rattle.initiators.specs.Memory.{Finds, Does, clockOf}
+use Rattle.box_rules.specs.Step.{step, clockOf}
+use Rattle.initiators.specs.Memory.{Finds, Does}
 use Rattle.calls.specs.Box.{Holds}
 
 -- the ten arrays that the caller lends

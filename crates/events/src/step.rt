@@ -2,7 +2,7 @@
 ghost use lib.ListN.{length};
 ghost use Rattle.box_rules.specs.State.{Box};
 ghost use Rattle.box_rules.specs.Step as rules;
-ghost use Rattle.initiators.specs.Memory.{Finds, Does, clockOf};
+ghost use Rattle.initiators.specs.Memory.{Finds, Does};
 use crate::reading::reading;
 use box_rules::Event;
 use box_rules::Watchdog;
@@ -24,7 +24,7 @@ pub fn step(
     records: &mut [u8],
 ) -> Stepped
     ensures { λ r. ⌜ ((b : Box) → Finds b (now (rows .entry)) (now (spans .entry)) (now (aims .entry)) (now (numbers .entry)) (now (run .entry)) (now (last .entry)) →
-        Does (rules.step (length (now (records .entry))) b w event) (clockOf event) (r .answer) (r .watchdog) (now (run .exit)) (now (last .exit)) (now (records .entry)) (now (records .exit))) ⌝ }
+        Does (rules.step (length (now (records .entry))) b w event) (rules.clockOf event) (r .answer) (r .watchdog) (now (run .exit)) (now (last .exit)) (now (records .entry)) (now (records .exit))) ⌝ }
 {
     match event {
         Event::TimeCode { byte, clock } => time_code(

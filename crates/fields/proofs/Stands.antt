@@ -1,5 +1,5 @@
 -- Where reading stands in a file: the plan so far, which memory holds, and that what is judged from here on is the verdict on the whole.
-use mathlib.Core.Path.{_≡_, refl, sym, ap, _∙_}
+use mathlib.Core.Path.{_≡_, refl, sym, subst, _∙_}
 use mathlib.Core.Logic.{_≢_}
 use mathlib.Core.List.{List, [], flatMap}
 use mathlib.Core.Option.{some}
@@ -23,10 +23,10 @@ use Rattle.plan_rules.specs.laws.Reading.{holds}
 use Rattle.plan_rules.specs.laws.Whole.{given-plan}
 use Rattle.plan_rules.specs.laws.Accepted.{file-length}
 use Rattle.reader.specs.declared.field.Head.the-variants.{Fault}
-use Rattle.plan_memory.specs.Memory.{numbersWith, numbersOf, Holds}
+use Rattle.plan_memory.specs.Memory.{numbersWith, HoldsSized, Holds}
 use Rattle.plan_memory.specs.Take.{itemFault, taken}
 use Rattle.reader.specs.Head.{headOf}
-use Rattle.fields.specs.Fields.{HoldsSized, Awaits, Takes, ReadIn}
+use Rattle.fields.specs.Fields.{Awaits, Takes, ReadIn}
 use Rattle.fields.proofs.Heads.{Fine, head-fault, fault-of-head, fault-of-item}
 
 pub record Stands (s : List ℕ) (at before : ℕ) (sets′ ends′ rows′ reach′ paths′ spans′ aims′ numbers′ : List ℕ) : Type 0 where
@@ -49,12 +49,12 @@ resized k n p h = rw h
 module _ {c d e f g h i j : List ℕ} where
   -- at the start of a file, with memory that holds no plan
   pub starts : (s : List ℕ) → Holds blank c d e f g h i j → Stands s 0 0 c d e f g h i j
-  unfolding readFile numbersOf written items blank flatMap
+  unfolding readFile written items blank flatMap
   starts s m = record {
     soFar = blank;
     fair = blank-fair;
     upTo = no-items (λ y. tagFor y ≤ 0);
-    memory = record { sets = m .sets; ends = m .ends; rows = m .rows; reach = m .reach; paths = m .paths; spans = m .spans; aims = m .aims; numbers = m .numbers };
+    memory = m;
     within = omega arith;
     fuel = length s;
     enough = omega arith;
@@ -64,7 +64,7 @@ module _ {c d e f g h i j : List ℕ} where
   module _ {s : List ℕ} {at before : ℕ} (w : Stands s at before c d e f g h i j) where
     -- at the end of the file memory has its plan
     pub ends-there : length s ≤ at → ReadIn s 0 at c d e f g h i j
-    unfolding readFrom numbersOf
+    unfolding readFrom
     ends-there l = record { within = w .within; faulty = λ z. absurd (z refl); whole = λ z. rw is reads; memory = λ z. rw is kept }
       where
         reads : readFile s ≡ plan (w .soFar)
@@ -79,9 +79,8 @@ module _ {c d e f g h i j : List ℕ} where
 
         kept : Holds (w .soFar) c d e f g h i j
         kept =
-            let m = w .memory in
             let n : at ≡ length (written (w .soFar)) = omega (arith, w .within, file-length s (w .soFar) reads) in
-            record { sets = m .sets; ends = m .ends; rows = m .rows; reach = m .reach; paths = m .paths; spans = m .spans; aims = m .aims; numbers = m .numbers ∙ ap (λ (k : ℕ). numbersWith k (w .soFar)) n }
+            subst (λ (k : ℕ). HoldsSized k (w .soFar) c d e f g h i j) n (w .memory)
 
     -- a field with a fault ends the reading
     module _ (more : at < length s) where

@@ -14,9 +14,9 @@ use Rattle.plan_rules.specs.Plan.{Device, Link, Route, Entry, Timing, Plan, Ite
 use Rattle.plan_rules.specs.Fields.{Tag, tagOf, lengthAllowed, itemOf}
 use Rattle.plan_rules.specs.Meaning.{hasKind, isLink, isInitiator, initiators, hasPath, entryAt}
 use Rattle.plan_rules.specs.laws.Lengths.{allowed}
-use Rattle.plan_memory.specs.Memory.{setsOf, endsOf, rowsOf, ofRow, reachOf, pathsInOrder, pathsOf, spanOf, spansOf, aimOf, aimsOf, numbersWith}
+use Rattle.plan_memory.specs.Memory.{setsOf, endsOf, rowsOf, ofRow, reachOf, pathsInOrder, pathsOf, spanOf, spansOf, aimOf, aimsOf, numbersWith, HoldsSized}
 use Rattle.plan_memory.specs.Take.{itemFault, taken}
-use Rattle.fields.specs.Fields.{HoldsSized, Takes}
+use Rattle.fields.specs.Fields.{Takes}
 
 -- what a row of the table of tags says of a content: its item, and the bounds of its length
 module _ {n k : ℕ} {t : Tag} (is : n ≡ k) (row : tagOf k ≡ some t) where

@@ -8,19 +8,8 @@ use Rattle.plan_rules.specs.Plan.{Plan, Item}
 use Rattle.plan_rules.specs.Judge.{plan, fault, readFile}
 use Rattle.plan_rules.specs.Canon.{given}
 use Rattle.plan_rules.specs.laws.Items.{UpTo}
-use Rattle.plan_memory.specs.Memory.{setsOf, endsOf, rowsOf, reachOf, pathsOf, spansOf, aimsOf, numbersWith, Holds}
+use Rattle.plan_memory.specs.Memory.{HoldsSized, Holds}
 use Rattle.plan_memory.specs.Take.{itemFault, taken}
-
--- the eight arrays hold plan p, with any size for that of the plan written out
-pub record HoldsSized (size : ℕ) (p : Plan) (sets′ ends′ rows′ reach′ paths′ spans′ aims′ numbers′ : List ℕ) : Type 0 where
-  pub sets : sets′ ≡ setsOf p
-  pub ends : ends′ ≡ endsOf p
-  pub rows : rows′ ≡ rowsOf p
-  pub reach : reach′ ≡ reachOf p
-  pub paths : paths′ ≡ pathsOf p
-  pub spans : spans′ ≡ spansOf p
-  pub aims : aims′ ≡ aimsOf p
-  pub numbers : numbers′ ≡ numbersWith size p
 
 -- a field with the tag may come after plan p: none of its items has a greater tag, and intervals come once
 pub record Awaits (p : Plan) (tag : ℕ) : Type 0 where

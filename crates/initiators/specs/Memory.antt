@@ -3,8 +3,6 @@ use mathlib.Core.Path.{_≡_}
 use Prim.Native.Nat.{ℕ}
 use mathlib.Core.List.{List}
 use Rattle.plan_view.specs.View.{Shown}
-use Rattle.box_rules.specs.declared.Event.{Event}
-use Rattle.box_rules.specs.declared.Event.the-variants.{TimeCode, Request, Reply, Reading}
 use Rattle.box_rules.specs.declared.Answer.{Answer}
 use Rattle.box_rules.specs.declared.Watchdog.{Watchdog}
 use Rattle.box_rules.specs.State.{Box}
@@ -29,10 +27,3 @@ pub record Does (o : Outcome) (clock : ℕ) (answer′ : Answer) (watchdog′ : 
   pub answers : Answers o answer′ run last
   pub watchdog : watchdog′ ≡ o .watchdog
   pub records : after ≡ recorded clock (o .records) before
-
--- the clock that comes with an event, 0 for none
-unfoldable pub clockOf : Event → ℕ
-clockOf (TimeCode byte clock) = clock
-clockOf (Request i t k n) = 0
-clockOf (Reply i m status) = 0
-clockOf (Reading clock) = clock

@@ -34,5 +34,4 @@ pub mod Filled
 pub mod Counting
 pub mod Parts
 pub mod Answers
-pub mod Sames
 pub mod Lines

@@ -12,8 +12,8 @@ use Rattle.lists.specs.Place.{atPlace}
 use Rattle.lists.specs.Order.{inOrder}
 use Rattle.lists.specs.Cells.{cells, padded}
 use Rattle.sets.specs.Set.{packed}
-use Rattle.plan_rules.specs.Plan.{Link, Route, Entry, Timing, Plan}
-use Rattle.plan_rules.specs.Meaning.{hasKind, isLink, hasPath, initiators, entryAt}
+use Rattle.plan_rules.specs.Plan.{Link, Route, Entry, Plan}
+use Rattle.plan_rules.specs.Meaning.{hasKind, isLink, hasPath, initiators, entryAt, leastOf, greatestOf}
 use Rattle.plan_rules.specs.Canon.{written}
 
 -- `sets`: the nodes, the routers and the links that are given, each a word
@@ -67,14 +67,6 @@ aimsOf p = cells 512 (λ (n : ℕ). ofRow p (n / 64) (λ (i : ℕ). aimOf (entry
 
 -- `numbers`: least and greatest interval, how many initiators, paths and entries there are, and the size of the plan written out.
 -- A plan that is accepted has a greatest interval of 1 at least: that it is not 0 says that there is a plan.
-unfoldable pub leastOf : List Timing → ℕ
-leastOf [] = 0
-leastOf (t ∷ ts) = t .least
-
-unfoldable pub greatestOf : List Timing → ℕ
-greatestOf [] = 0
-greatestOf (t ∷ ts) = t .greatest
-
 unfoldable pub numbersWith : ℕ → Plan → List ℕ
 numbersWith size p =
     leastOf (p .timings)
@@ -85,11 +77,8 @@ numbersWith size p =
     ∷ size
     ∷ []
 
-unfoldable pub numbersOf : Plan → List ℕ
-numbersOf p = numbersWith (length (written p)) p
-
--- the eight arrays hold plan p
-pub record Holds (p : Plan) (sets′ ends′ rows′ reach′ paths′ spans′ aims′ numbers′ : List ℕ) : Type 0 where
+-- the eight arrays hold plan p, with any size for that of the plan written out
+pub record HoldsSized (size : ℕ) (p : Plan) (sets′ ends′ rows′ reach′ paths′ spans′ aims′ numbers′ : List ℕ) : Type 0 where
   pub sets : sets′ ≡ setsOf p
   pub ends : ends′ ≡ endsOf p
   pub rows : rows′ ≡ rowsOf p
@@ -97,4 +86,11 @@ pub record Holds (p : Plan) (sets′ ends′ rows′ reach′ paths′ spans′ 
   pub paths : paths′ ≡ pathsOf p
   pub spans : spans′ ≡ spansOf p
   pub aims : aims′ ≡ aimsOf p
-  pub numbers : numbers′ ≡ numbersOf p
+  pub numbers : numbers′ ≡ numbersWith size p
+
+-- with its own size
+abbrev pub numbersOf : Plan → List ℕ
+numbersOf p = numbersWith (length (written p)) p
+
+abbrev pub Holds : Plan → (sets′ ends′ rows′ reach′ paths′ spans′ aims′ numbers′ : List ℕ) → Type 0
+Holds p = HoldsSized (length (written p)) p

@@ -7,7 +7,7 @@ use mathlib.Core.Bool.{Bool, false, not, _&&_, _||_, cond}
 use lib.Dec.{ltb, leb, eqb}
 use Rattle.lists.specs.Search.{any, keep, find, isIn, below64}
 use Rattle.lists.specs.Numbers.{firstFrom}
-use Rattle.plan_rules.specs.Plan.{Device, Link, Route, Entry, Plan}
+use Rattle.plan_rules.specs.Plan.{Device, Link, Route, Entry, Timing, Plan}
 
 unfoldable pub isDevice : Plan → ℕ → Bool
 isDevice p n = any (λ (d : Device). eqb n (d .num)) (p .devices)
@@ -113,3 +113,12 @@ runsInto e f = eqb (e .initiator) (f .initiator) && not (eqb (e .slot) (f .slot)
 
 unfoldable pub overruns : List Entry → Entry → Bool
 overruns es e = any (runsInto e) es
+
+-- "least and greatest time-code interval", 0 where a plan has none
+unfoldable pub leastOf : List Timing → ℕ
+leastOf [] = 0
+leastOf (t ∷ ts) = t .least
+
+unfoldable pub greatestOf : List Timing → ℕ
+greatestOf [] = 0
+greatestOf (t ∷ ts) = t .greatest

@@ -8,9 +8,9 @@ use Rattle.lists.specs.Search.{isIn}
 use Rattle.lists.specs.Place.{Found, first}
 use Rattle.sets.specs.Set.{member}
 use Rattle.plan_rules.specs.Plan.{Entry, Plan, blank}
-use Rattle.plan_rules.specs.Meaning.{initiators}
+use Rattle.plan_rules.specs.Meaning.{initiators, greatestOf}
 use Rattle.plan_rules.specs.laws.Sound.{Sound}
-use Rattle.plan_memory.specs.Memory.{rowsOf, ofRow, spansOf, aimsOf, greatestOf, numbersOf}
+use Rattle.plan_memory.specs.Memory.{rowsOf, ofRow, spansOf, aimsOf, numbersOf}
 
 -- the plan, blank where there is none
 abbrev pub planIn : Option Plan → Plan

@@ -11,54 +11,6 @@ ghost use Rattle.plan_memory.specs.Memory.{Holds};
 ghost use Rattle.plan.specs.Load.{left};
 ghost use Rattle.plan_memory.specs.Held.{Held};
 
-fn same_bytes(a: &[u8], b: &[u8]) -> bool
-    ensures { λ r. ⌜ (r ≡ true) ↔ (now (a .entry) ≡ now (b .entry)) ⌝ }
-{
-    if a.len() != b.len() {
-        return false;
-    }
-    let mut i = 0;
-    while i < a.len() {
-        if a[i] != b[i] {
-            return false;
-        }
-        i += 1;
-    }
-    true
-}
-
-fn same_numbers(a: &[u32], b: &[u32]) -> bool
-    ensures { λ r. ⌜ (r ≡ true) ↔ (now (a .entry) ≡ now (b .entry)) ⌝ }
-{
-    if a.len() != b.len() {
-        return false;
-    }
-    let mut i = 0;
-    while i < a.len() {
-        if a[i] != b[i] {
-            return false;
-        }
-        i += 1;
-    }
-    true
-}
-
-fn same_words(a: &[u64], b: &[u64]) -> bool
-    ensures { λ r. ⌜ (r ≡ true) ↔ (now (a .entry) ≡ now (b .entry)) ⌝ }
-{
-    if a.len() != b.len() {
-        return false;
-    }
-    let mut i = 0;
-    while i < a.len() {
-        if a[i] != b[i] {
-            return false;
-        }
-        i += 1;
-    }
-    true
-}
-
 // Whether two plan memories are equal.
 fn same_plan(
     sets: &[u64; 3],
@@ -82,28 +34,28 @@ fn same_plan(
         × (now (reach .entry) ≡ now («other_reach» .entry)) × (now (paths .entry) ≡ now («other_paths» .entry)) × (now (spans .entry) ≡ now («other_spans» .entry))
         × (now (aims .entry) ≡ now («other_aims» .entry)) × (now (numbers .entry) ≡ now («other_numbers» .entry))) ⌝ }
 {
-    if !same_words(sets, other_sets) {
+    if !lists::words::same(sets, other_sets) {
         return false;
     }
-    if !same_bytes(ends, other_ends) {
+    if !lists::bytes::same(ends, other_ends) {
         return false;
     }
-    if !same_bytes(rows, other_rows) {
+    if !lists::bytes::same(rows, other_rows) {
         return false;
     }
-    if !same_words(reach, other_reach) {
+    if !lists::words::same(reach, other_reach) {
         return false;
     }
-    if !same_bytes(paths, other_paths) {
+    if !lists::bytes::same(paths, other_paths) {
         return false;
     }
-    if !same_bytes(spans, other_spans) {
+    if !lists::bytes::same(spans, other_spans) {
         return false;
     }
-    if !same_words(aims, other_aims) {
+    if !lists::words::same(aims, other_aims) {
         return false;
     }
-    same_numbers(numbers, other_numbers)
+    lists::numbers::same(numbers, other_numbers)
 }
 
 // True exactly where the file is accepted and the box holds its plan. The memory beside the box's has the file's plan afterwards.

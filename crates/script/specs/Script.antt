@@ -8,45 +8,45 @@ use lib.ListN.{getD}
 use Rattle.plan_rules.specs.Print.{text}
 use Rattle.words.specs.Words.{same, wordsOf, numbersOf}
 use Rattle.hex.specs.Hex.{bytesOf}
+use Rattle.script.specs.declared.command.Kind.{Kind}
+use Rattle.script.specs.declared.command.Kind.the-variants as kind
 use Rattle.script.specs.declared.command.Command.{Command}
 use Rattle.script.specs.declared.command.Command.the-variants.{Skip, Bad, Load, Clear, TimeCode, Request, Reply, Reading, Out, Watchdog, SetWatchdog}
 
-unfoldable pub numbered : List ℕ → (List ℕ → Command) → List (List ℕ) → Command
-numbered mosts made ws = elim (numbersOf mosts ws) [ none ↦ Bad | some ns ↦ made ns ]
+-- the greatest numbers that may stand behind a command's name, and the command that they make
+unfoldable pub mosts : Kind → List ℕ
+-- "BYTE CLOCK BUF", "BUF (0 to 4,096)"
+mosts kind.TimeCode = 255 ∷ 4_294_967_295 ∷ 4_096 ∷ []
+-- "I T K L", "(I, T, K 0 to 255, L 0 to 65,535)"
+mosts kind.Request = 255 ∷ 255 ∷ 255 ∷ 65_535 ∷ []
+-- "I NUM STATUS", "(I, STATUS 0 to 255, NUM 0 to 65,535)"
+mosts kind.Reply = 255 ∷ 65_535 ∷ 255 ∷ []
+mosts kind.Reading = 4_294_967_295 ∷ []
+-- "ROOM bytes (0 to 32,768)"
+mosts kind.Out = 32_768 ∷ []
+-- "LAST SEEN REPORTED LEAST GREATEST"
+mosts kind.SetWatchdog = 4_294_967_295 ∷ 4_294_967_295 ∷ 4_294_967_295 ∷ 4_294_967_295 ∷ 4_294_967_295 ∷ []
+
+unfoldable pub made : Kind → List ℕ → Command
+made kind.TimeCode ns = TimeCode (getD ns 0 0) (getD ns 1 0) (getD ns 2 0)
+made kind.Request ns = Request (getD ns 0 0) (getD ns 1 0) (getD ns 2 0) (getD ns 3 0)
+made kind.Reply ns = Reply (getD ns 0 0) (getD ns 1 0) (getD ns 2 0)
+made kind.Reading ns = Reading (getD ns 0 0)
+made kind.Out ns = Out (getD ns 0 0)
+made kind.SetWatchdog ns = SetWatchdog (getD ns 0 0) (getD ns 1 0) (getD ns 2 0) (getD ns 3 0) (getD ns 4 0)
 
 -- the table: a command's name, and the command by the words behind it
+unfoldable pub numbered : Kind → List (List ℕ) → Command
+numbered k ws = elim (numbersOf (mosts k) ws) [ none ↦ Bad | some ns ↦ made k ns ]
+
 unfoldable pub load : List (List ℕ) → Command
 load [] = Bad
 load (w ∷ []) = elim (bytesOf w) [ none ↦ Bad | some bytes ↦ Load 5 ]
 load (w ∷ v ∷ vs) = Bad
 
 unfoldable pub alone : Command → List (List ℕ) → Command
-alone c = numbered [] (λ ns. c)
-
--- "BYTE CLOCK BUF", "BUF (0 to 4,096)"
-unfoldable pub timeCode : List (List ℕ) → Command
-timeCode = numbered (255 ∷ 4_294_967_295 ∷ 4_096 ∷ []) (λ ns. TimeCode (getD ns 0 0) (getD ns 1 0) (getD ns 2 0))
-
--- "I T K L", "(I, T, K 0 to 255, L 0 to 65,535)"
-unfoldable pub request : List (List ℕ) → Command
-request = numbered (255 ∷ 255 ∷ 255 ∷ 65_535 ∷ []) (λ ns. Request (getD ns 0 0) (getD ns 1 0) (getD ns 2 0) (getD ns 3 0))
-
--- "I NUM STATUS", "(I, STATUS 0 to 255, NUM 0 to 65,535)"
-unfoldable pub reply : List (List ℕ) → Command
-reply = numbered (255 ∷ 65_535 ∷ 255 ∷ []) (λ ns. Reply (getD ns 0 0) (getD ns 1 0) (getD ns 2 0))
-
-unfoldable pub reading : List (List ℕ) → Command
-reading = numbered (4_294_967_295 ∷ []) (λ ns. Reading (getD ns 0 0))
-
--- "ROOM bytes (0 to 32,768)"
-unfoldable pub writeOut : List (List ℕ) → Command
-writeOut = numbered (32_768 ∷ []) (λ ns. Out (getD ns 0 0))
-
--- "LAST SEEN REPORTED LEAST GREATEST"
-unfoldable pub setWatchdog : List (List ℕ) → Command
-setWatchdog =
-    numbered (4_294_967_295 ∷ 4_294_967_295 ∷ 4_294_967_295 ∷ 4_294_967_295 ∷ 4_294_967_295 ∷ [])
-    (λ ns. SetWatchdog (getD ns 0 0) (getD ns 1 0) (getD ns 2 0) (getD ns 3 0) (getD ns 4 0))
+alone c [] = c
+alone c (w ∷ ws) = Bad
 
 abbrev pub Row : Type 0
 Row = List ℕ × (List (List ℕ) → Command)
@@ -55,13 +55,13 @@ unfoldable pub commands : List Row
 commands =
     (text "load", load)
     ∷ (text "clear", alone Clear)
-    ∷ (text "tc", timeCode)
-    ∷ (text "req", request)
-    ∷ (text "rep", reply)
-    ∷ (text "clk", reading)
-    ∷ (text "out", writeOut)
+    ∷ (text "tc", numbered kind.TimeCode)
+    ∷ (text "req", numbered kind.Request)
+    ∷ (text "rep", numbered kind.Reply)
+    ∷ (text "clk", numbered kind.Reading)
+    ∷ (text "out", numbered kind.Out)
     ∷ (text "wd", alone Watchdog)
-    ∷ (text "setwd", setWatchdog)
+    ∷ (text "setwd", numbered kind.SetWatchdog)
     ∷ []
 
 unfoldable pub named : List Row → List ℕ → List (List ℕ) → Command

@@ -3,10 +3,10 @@ ghost use mathlib.Core.Path.{_≡_};
 ghost use Prim.Native.Nat.{_≤_};
 ghost use lib.ListN.{length, take, drop};
 ghost use Rattle.words.specs.Reading.{behindWord};
-ghost use Rattle.script.specs.Script.{load, alone, timeCode, request, reply, reading, writeOut, setWatchdog, commands, named, commandOf};
+ghost use Rattle.script.specs.Script.{mosts, numbered, load, alone, commands, named, commandOf};
 use hex::is_bytes;
+use lists::bytes::same;
 use words::numbers;
-use words::same;
 use words::word_length;
 
 pub enum Command {
@@ -51,6 +51,16 @@ pub enum Command {
     },
 }
 
+// The commands that are a name and numbers.
+enum Kind {
+    TimeCode,
+    Request,
+    Reply,
+    Reading,
+    Out,
+    SetWatchdog,
+}
+
 // "load HEX"
 fn load(line: &[u8], end: usize) -> Command
     requires { ⌜ end ≤ length (now line) ⌝ }
@@ -81,100 +91,41 @@ fn alone(line: &[u8], end: usize, command: Command) -> Command
     command
 }
 
-// "tc BYTE CLOCK BUF"
-fn time_code(line: &[u8], end: usize) -> Command
-    requires { ⌜ end ≤ length (now line) ⌝ }
-    ensures { λ r. ⌜ r ≡ timeCode (behindWord (drop end (now (line .entry)))) ⌝ }
+// The numbers behind a name, each at most its bound, put in their places.
+fn numbered(line: &[u8], end: usize, bounds: &[u32], kind: Kind) -> Command
+    requires { ⌜ (end ≤ length (now line)) × (now bounds ≡ mosts kind) ⌝ }
+    ensures { λ r. ⌜ r ≡ numbered kind (behindWord (drop end (now (line .entry)))) ⌝ }
 {
-    let mosts = [255, 4_294_967_295, 4_096];
     let mut ns = [0u32; 5];
-    if !numbers(line, end, &mosts, &mut ns) {
+    if !numbers(line, end, bounds, &mut ns) {
         return Command::Bad;
     }
-    Command::TimeCode {
-        byte: ns[0] as u8,
-        clock: ns[1],
-        room: ns[2] as u16,
-    }
-}
-
-// "req I T K L"
-fn request(line: &[u8], end: usize) -> Command
-    requires { ⌜ end ≤ length (now line) ⌝ }
-    ensures { λ r. ⌜ r ≡ request (behindWord (drop end (now (line .entry)))) ⌝ }
-{
-    let mosts = [255, 255, 255, 65_535];
-    let mut ns = [0u32; 5];
-    if !numbers(line, end, &mosts, &mut ns) {
-        return Command::Bad;
-    }
-    Command::Request {
-        initiator: ns[0] as u8,
-        target: ns[1] as u8,
-        kind: ns[2] as u8,
-        length: ns[3] as u16,
-    }
-}
-
-// "rep I NUM STATUS"
-fn reply(line: &[u8], end: usize) -> Command
-    requires { ⌜ end ≤ length (now line) ⌝ }
-    ensures { λ r. ⌜ r ≡ reply (behindWord (drop end (now (line .entry)))) ⌝ }
-{
-    let mosts = [255, 65_535, 255];
-    let mut ns = [0u32; 5];
-    if !numbers(line, end, &mosts, &mut ns) {
-        return Command::Bad;
-    }
-    Command::Reply {
-        initiator: ns[0] as u8,
-        number: ns[1] as u16,
-        status: ns[2] as u8,
-    }
-}
-
-// "clk T"
-fn reading(line: &[u8], end: usize) -> Command
-    requires { ⌜ end ≤ length (now line) ⌝ }
-    ensures { λ r. ⌜ r ≡ reading (behindWord (drop end (now (line .entry)))) ⌝ }
-{
-    let mosts = [4_294_967_295];
-    let mut ns = [0u32; 5];
-    if !numbers(line, end, &mosts, &mut ns) {
-        return Command::Bad;
-    }
-    Command::Reading { clock: ns[0] }
-}
-
-// "out ROOM"
-fn write_out(line: &[u8], end: usize) -> Command
-    requires { ⌜ end ≤ length (now line) ⌝ }
-    ensures { λ r. ⌜ r ≡ writeOut (behindWord (drop end (now (line .entry)))) ⌝ }
-{
-    let mosts = [32_768];
-    let mut ns = [0u32; 5];
-    if !numbers(line, end, &mosts, &mut ns) {
-        return Command::Bad;
-    }
-    Command::Out { room: ns[0] as u16 }
-}
-
-// "setwd LAST SEEN REPORTED LEAST GREATEST"
-fn set_watchdog(line: &[u8], end: usize) -> Command
-    requires { ⌜ end ≤ length (now line) ⌝ }
-    ensures { λ r. ⌜ r ≡ setWatchdog (behindWord (drop end (now (line .entry)))) ⌝ }
-{
-    let mosts = [4_294_967_295; 5];
-    let mut ns = [0u32; 5];
-    if !numbers(line, end, &mosts, &mut ns) {
-        return Command::Bad;
-    }
-    Command::SetWatchdog {
-        last: ns[0],
-        seen: ns[1],
-        reported: ns[2],
-        least: ns[3],
-        greatest: ns[4],
+    match kind {
+        Kind::TimeCode => Command::TimeCode {
+            byte: ns[0] as u8,
+            clock: ns[1],
+            room: ns[2] as u16,
+        },
+        Kind::Request => Command::Request {
+            initiator: ns[0] as u8,
+            target: ns[1] as u8,
+            kind: ns[2] as u8,
+            length: ns[3] as u16,
+        },
+        Kind::Reply => Command::Reply {
+            initiator: ns[0] as u8,
+            number: ns[1] as u16,
+            status: ns[2] as u8,
+        },
+        Kind::Reading => Command::Reading { clock: ns[0] },
+        Kind::Out => Command::Out { room: ns[0] as u16 },
+        Kind::SetWatchdog => Command::SetWatchdog {
+            last: ns[0],
+            seen: ns[1],
+            reported: ns[2],
+            least: ns[3],
+            greatest: ns[4],
+        },
     }
 }
 
@@ -191,25 +142,25 @@ fn named(line: &[u8], end: usize) -> Command
         return alone(line, end, Command::Clear);
     }
     if same(name, b"tc") {
-        return time_code(line, end);
+        return numbered(line, end, &[255, 4_294_967_295, 4_096], Kind::TimeCode);
     }
     if same(name, b"req") {
-        return request(line, end);
+        return numbered(line, end, &[255, 255, 255, 65_535], Kind::Request);
     }
     if same(name, b"rep") {
-        return reply(line, end);
+        return numbered(line, end, &[255, 65_535, 255], Kind::Reply);
     }
     if same(name, b"clk") {
-        return reading(line, end);
+        return numbered(line, end, &[4_294_967_295], Kind::Reading);
     }
     if same(name, b"out") {
-        return write_out(line, end);
+        return numbered(line, end, &[32_768], Kind::Out);
     }
     if same(name, b"wd") {
         return alone(line, end, Command::Watchdog);
     }
     if same(name, b"setwd") {
-        return set_watchdog(line, end);
+        return numbered(line, end, &[4_294_967_295; 5], Kind::SetWatchdog);
     }
     Command::Bad
 }

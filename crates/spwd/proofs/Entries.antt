@@ -24,9 +24,8 @@ use Rattle.box_rules.specs.declared.Answer.{Answer}
 use Rattle.box_rules.specs.State.{Box, thePlan}
 use Rattle.box_rules.specs.Turn.{valueOf}
 use Rattle.box_rules.specs.Records.{Record, recordBytes}
-use Rattle.box_rules.specs.Step.{Outcome, step}
+use Rattle.box_rules.specs.Step.{Outcome, step, clockOf}
 use Rattle.box_rules.specs.Promises as box
-use Rattle.initiators.specs.Memory.{clockOf}
 use Rattle.calls.specs.Calls.{Lent, StepLeaves, Came}
 use Rattle.spwd.specs.Words.{countOf, recordAt}
 use Rattle.spwd.specs.Promises.{StartsOnlyAtEntries, OncePerVisit}

@@ -22,7 +22,7 @@ use Rattle.plan_rules.specs.Canon.{items}
 use Rattle.plan_rules.specs.Good.{Each}
 use Rattle.plan_rules.specs.laws.Lengths.{Sized}
 use Rattle.plan_rules.specs.laws.Uses.{on-path}
-use Rattle.plan_memory.specs.Memory.{pathsInOrder, numbersWith, numbersOf}
+use Rattle.plan_memory.specs.Memory.{pathsInOrder, numbersWith}
 use Rattle.plan_memory.specs.laws.PathRows.{path-count, to-order, path-at, start-byte, end-byte, count-byte, link-bytes}
 use Rattle.box_rules.specs.State.{Box, thePlan}
 use Rattle.box_rules.specs.History.{Reached}
@@ -61,7 +61,7 @@ module _ (m : Memory) (b : Box) (h : HeldBy m b) (i t l : ℕ) where
       rw (h .at .plan .paths, n, start-byte p sized low k x at, end-byte p sized low k x at, count-byte p sized low k x at, link-bytes p sized low k x at)
 
   all : nth (m .numbers) 3 ≡ length (p .paths)
-  unfolding numbersOf numbersWith
+  unfolding numbersWith
   all = rw (h .at .plan .numbers)
 
   as-many : length (pathsInOrder p) ≡ length (p .paths)

@@ -15,7 +15,7 @@ use Rattle.lists.specs.laws.At.{at-none, at-within, place-once}
 use Rattle.plan_rules.specs.Plan.{nth}
 use Rattle.plan_rules.specs.Meaning.{initiators}
 use Rattle.plan_rules.specs.laws.Initiators.{initiators-once}
-use Rattle.plan_memory.specs.Memory.{ofRow, numbersWith, numbersOf}
+use Rattle.plan_memory.specs.Memory.{ofRow, numbersWith}
 use Rattle.plan_memory.specs.laws.InRows.{of-row, row-cell}
 use Rattle.plan_view.specs.View.{Owner, ownerOf}
 use Rattle.plan_view.specs.laws.Rows.{row-initiator}
@@ -70,7 +70,7 @@ module _ (m : Memory) (b : Box) (h : HeldBy m b) where
 
   -- the rows that are in use are those of the initiators
   in-use : nth (m .numbers) 2 ≡ length (initiators (thePlan b))
-  unfolding numbersOf numbersWith
+  unfolding numbersWith
   in-use = rw (h .at .plan .numbers)
 
   eight-rows : (r i : ℕ) → atPlace r (initiators (thePlan b)) ≡ some i → r < 8

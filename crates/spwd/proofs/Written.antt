@@ -16,9 +16,8 @@ use Rattle.box_rules.specs.Answer.{values}
 use Rattle.box_rules.specs.State as state
 use Rattle.box_rules.specs.State.{Box, Live}
 use Rattle.box_rules.specs.Records.{Record, recordBytes, recorded, full}
-use Rattle.box_rules.specs.Step.{step, accepts, Outcome, endedBy}
+use Rattle.box_rules.specs.Step.{step, accepts, Outcome, endedBy, clockOf}
 use Rattle.box_rules.specs.laws.Steps.{step-cases}
-use Rattle.initiators.specs.Memory.{clockOf}
 use Rattle.calls.specs.Calls.{Lent}
 use Rattle.spwd.specs.Words.{countOf, recordAt}
 use Rattle.spwd.specs.Promises.{OutcomeOf, Started}

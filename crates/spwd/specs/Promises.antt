@@ -25,9 +25,9 @@ use Rattle.box_rules.specs.State as state
 use Rattle.box_rules.specs.State.{Box, Live, thePlan}
 use Rattle.box_rules.specs.Turn.{inSequence}
 use Rattle.box_rules.specs.Records.{recordBytes, recorded, full}
-use Rattle.box_rules.specs.Step.{Outcome, step}
+use Rattle.box_rules.specs.Step.{Outcome, step, clockOf}
 use Rattle.box_rules.specs.History.{Reached}
-use Rattle.initiators.specs.Memory.{Finds, clockOf}
+use Rattle.initiators.specs.Memory.{Finds}
 use Rattle.calls.specs.Calls.{Memory, At, Lent, ClearLeaves, LoadLeaves, StepLeaves, Came, Done, Follow}
 use Rattle.spwd.specs.Words.{blankMemory, RowOf, runWord, waitingIn, liveTargetIn, requestIn, pathHas, numberOf, countOf, InSequence, timeCodes, AllInSequence, recordAt}
 

@@ -14,7 +14,8 @@ use Rattle.plan_rules.specs.laws.Fair.{Fair}
 use Rattle.plan_rules.specs.laws.Size.{most-entries}
 use Rattle.plan_rules.specs.declared.Search.the-variants.{Nothing, Found}
 use Rattle.plan_rules.specs.Verdict.{searchOf}
-use Rattle.plan_memory.specs.Memory.{greatestOf, numbersWith, numbersOf}
+use Rattle.plan_rules.specs.Meaning.{greatestOf}
+use Rattle.plan_memory.specs.Memory.{numbersWith, numbersOf}
 
 -- the intervals: the greatest is 0 where there are none
 module _ (p : Plan) {w : List ℕ} (is : w ≡ numbersOf p) where
@@ -26,16 +27,16 @@ module _ (p : Plan) {w : List ℕ} (is : w ≡ numbersOf p) where
       absurd (omega (arith, r .some))
 
   pub without : Fair p → nth w 1 ≡ 0 → p .timings ≡ []
-  unfolding numbersOf numbersWith
+  unfolding numbersWith
   without fair z = none-there fair (p .timings) refl (rw is at z)
 
   pub with-them : nth w 1 ≢ 0 → p .timings ≢ []
-  unfolding numbersOf numbersWith greatestOf
+  unfolding numbersWith greatestOf
   with-them h e = h (rw (is, e))
 
   -- the counts that it names are small
   pub few : Good p → (nth w 3 ≤ 128) × (nth w 4 ≤ 512)
-  unfolding numbersOf numbersWith
+  unfolding numbersWith
   few good = rw is (good .most, most-entries p good)
 
 -- what a search answered

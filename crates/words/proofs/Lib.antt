@@ -1,5 +1,4 @@
 -- Laws of words and numbers.
-pub mod Equal
 pub mod Split
 pub mod Digits
 pub mod Several

@@ -3,7 +3,7 @@ ghost use mathlib.Core.Path.{_≡_};
 ghost use Prim.Native.Nat.{_≤_};
 ghost use lib.ListN.{length, drop};
 ghost use Rattle.lists.specs.Puts.{Puts};
-ghost use Rattle.words.specs.Words.{same, numberOf, numbersOf};
+ghost use Rattle.words.specs.Words.{numberOf, numbersOf};
 ghost use Rattle.words.specs.Reading.{WordEnds, NumbersRead, behindWord, orNone};
 ghost use Rattle.words.specs.Lines.{inRow};
 use line::print::put;
@@ -11,22 +11,6 @@ use line::print::put_decimal;
 
 // Greater than every number: a word that is no number.
 const NO_NUMBER: u64 = 4_294_967_296;
-
-pub fn same(a: &[u8], b: &[u8]) -> bool
-    ensures { λ r. ⌜ r ≡ same (now (a .entry)) (now (b .entry)) ⌝ }
-{
-    if a.len() != b.len() {
-        return false;
-    }
-    let mut i = 0;
-    while i < a.len() {
-        if a[i] != b[i] {
-            return false;
-        }
-        i += 1;
-    }
-    true
-}
 
 // The length of the word that s begins with: up to the first space, or the end.
 pub fn word_length(s: &[u8]) -> usize

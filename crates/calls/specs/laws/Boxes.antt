@@ -1,19 +1,20 @@
 -- The box and the five numbers that a clear and a load leave, from the memory that they leave.
 use mathlib.Core.Path.{_≡_, refl, sym, _∙_}
 use mathlib.Core.Logic.{_↔_}
-use mathlib.Core.List.{List, [], _∷_}
+use mathlib.Core.List.{List}
 use mathlib.Core.Bool.{Bool, true, false, cond}
 use Prim.Native.Nat.{ℕ}
 use lib.ListN.{replicate}
 use borrow.Author.Tests.{eqb-true}
-use Rattle.plan_rules.specs.Plan.{nth, Timing, Plan, blank}
+use Rattle.plan_rules.specs.Plan.{nth, Plan, blank}
 use Rattle.plan_rules.specs.Canon.{canonical, given, planOf}
 use Rattle.plan_rules.specs.laws.Accepted.{accepted-good}
 use Rattle.plan_memory.specs.Memory as plan
-use Rattle.plan_memory.specs.Memory.{leastOf, greatestOf, numbersWith, numbersOf}
+use Rattle.plan_rules.specs.Meaning.{leastOf, greatestOf}
+use Rattle.plan_memory.specs.Memory.{numbersWith, numbersOf}
 use Rattle.plan_memory.specs.laws.SameMemory.{holds-canonical}
 use Rattle.box_rules.specs.declared.Watchdog.{Watchdog}
-use Rattle.box_rules.specs.State.{cleared, watchdogCleared, holding, timingOf, watchdogFor, isAccepted, loaded, watchdogLoaded, thePlan}
+use Rattle.box_rules.specs.State.{cleared, watchdogCleared, holding, watchdogFor, isAccepted, loaded, watchdogLoaded, thePlan}
 use Rattle.initiators.specs.Run.{lastOf}
 use Rattle.plan.specs.Load.{left}
 use Rattle.calls.specs.Box.{Holds}
@@ -48,21 +49,10 @@ module _ {sets ends rows reach paths spans aims numbers run last : List ℕ} whe
 abbrev fresh : ℕ → ℕ → Watchdog
 fresh least greatest = record { last = 0; seen = 0; reported = 0; least = least; greatest = greatest }
 
-fresh-for : (p : Plan) → fresh (leastOf (p .timings)) (greatestOf (p .timings)) ≡ watchdogFor p
-unfolding watchdogFor timingOf leastOf greatestOf
-fresh-for p = go (p .timings)
-  where
-    first : List Timing → Timing
-    first ts = elim ts [ [] ↦ record { least = 0; greatest = 0 } | t ∷ us ↦ t ]
-
-    go : (ts : List Timing) → fresh (leastOf ts) (greatestOf ts) ≡ fresh ((first ts) .least) ((first ts) .greatest)
-    go [] = refl
-    go (t ∷ ts) = refl
-
 pub load-watchdog : (file : List ℕ) {numbers : List ℕ} → numbers ≡ numbersOf (left file) → fresh (nth numbers 0) (nth numbers 1) ≡ watchdogLoaded file
-unfolding left watchdogLoaded watchdogCleared isAccepted planOf canonical blank numbersOf numbersWith leastOf greatestOf
+unfolding left watchdogLoaded watchdogFor watchdogCleared isAccepted planOf canonical blank numbersWith leastOf greatestOf
 load-watchdog file is = rw is (go (isAccepted file))
   where
     go : (x : Bool) → fresh (nth (numbersOf (cond x (given file) blank)) 0) (nth (numbersOf (cond x (given file) blank)) 1) ≡ cond x (watchdogFor (planOf file)) watchdogCleared
-    go true = fresh-for (planOf file)
+    go true = refl
     go false = refl

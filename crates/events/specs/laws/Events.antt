@@ -8,10 +8,10 @@ use Rattle.box_rules.specs.declared.Answer.{Answer}
 use Rattle.box_rules.specs.declared.Watchdog.{Watchdog}
 use Rattle.box_rules.specs.State.{Box}
 use Rattle.box_rules.specs.Records.{recorded}
-use Rattle.box_rules.specs.Step.{Outcome, step, accepts}
+use Rattle.box_rules.specs.Step.{Outcome, step, accepts, clockOf}
 use Rattle.box_rules.specs.laws.Steps.{step-cases}
 use Rattle.initiators.specs.Run.{Runs}
-use Rattle.initiators.specs.Memory.{Answers, Does, clockOf}
+use Rattle.initiators.specs.Memory.{Answers, Does}
 
 nothing-recorded : (clock : ℕ) (buffer : List ℕ) → buffer ≡ recorded clock [] buffer
 unfolding recorded flatMap

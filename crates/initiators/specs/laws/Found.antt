@@ -11,7 +11,7 @@ use Rattle.lists.specs.laws.Bools.{not-both}
 use Rattle.plan_rules.specs.Plan.{Plan, blank}
 use Rattle.plan_rules.specs.Meaning.{isInitiator, initiators}
 use Rattle.plan_rules.specs.laws.Sound.{Sound}
-use Rattle.plan_memory.specs.Memory.{rowsOf, numbersWith, numbersOf}
+use Rattle.plan_memory.specs.Memory.{rowsOf, numbersWith}
 use Rattle.plan_view.specs.View.{rowFor}
 use Rattle.box_rules.specs.State.{Box, thePlan}
 use Rattle.initiators.specs.Memory.{Finds}
@@ -24,7 +24,7 @@ Rowed rows numbers i row = (size : ℕ) (p : Plan) → Sound p → rows ≡ rows
 module _ {b : Box} {rows spans aims numbers run last : List ℕ} (f : Finds b rows spans aims numbers run last) where
   module _ (i row : ℕ) (told : Rowed rows numbers i row) where
     here : row ≡ rowFor (thePlan b) i
-    unfolding thePlan numbersOf
+    unfolding thePlan
     here = told _ (thePlan b) (f .plan .sound) (f .plan .rows) (f .plan .timed .numbers)
 
     pub is-initiator : row < 8 → isInitiator (thePlan b) i ≡ true

@@ -5,8 +5,8 @@ use Prim.Native.Nat.{ℕ, _+_, _%_, _^_, _<_}
 use native.Mathlib.Omega.{arith}
 use lib.ListN.{length, set, length-append}
 use Rattle.plan_rules.specs.Plan.{nth, Entry, Timing, Plan, entry, timing, grow}
-use Rattle.plan_rules.specs.Meaning.{isInitiator, initiators}
-use Rattle.plan_memory.specs.Memory.{leastOf, greatestOf, numbersWith}
+use Rattle.plan_rules.specs.Meaning.{isInitiator, initiators, leastOf, greatestOf}
+use Rattle.plan_memory.specs.Memory.{numbersWith}
 
 module _ (size : ℕ) (p : Plan) (numbers : List ℕ) (held : numbers ≡ numbersWith size p) where
   pub initiators-told : nth numbers 2 ≡ length (initiators p)

@@ -11,18 +11,18 @@ use Rattle.lists.specs.Place.{atPlace}
 use Rattle.lists.specs.Order.{inOrder}
 use Rattle.lists.specs.Cells.{cells, padded}
 use Rattle.sets.specs.Set.{packed, packedBelow}
-use Rattle.plan_rules.specs.Meaning.{hasKind, isLink, isInitiator, initiators, hasPath, entryAt}
+use Rattle.plan_rules.specs.Meaning.{hasKind, isLink, isInitiator, initiators, hasPath, entryAt, leastOf, greatestOf}
 use Rattle.plan_rules.specs.Canon.{items, written}
 use Rattle.plan_rules.specs.Plan.{nth, Timing, Plan, blank, timing}
 use Rattle.plan_rules.specs.Good.{Good}
 use Rattle.plan_rules.specs.laws.Items.{timing-in}
 use Rattle.plan_rules.specs.laws.Ranges.{timing-range}
-use Rattle.plan_memory.specs.Memory.{setsOf, endOf, endsOf, rowsOf, ofRow, reachOf, pathsInOrder, pathsOf, spansOf, aimsOf, leastOf, greatestOf, numbersWith, numbersOf, Holds}
+use Rattle.plan_memory.specs.Memory.{setsOf, endOf, endsOf, rowsOf, ofRow, reachOf, pathsInOrder, pathsOf, spansOf, aimsOf, numbersWith, Holds}
 
 -- every array of the blank plan is all 0
 pub holds-blank : Holds blank (replicate 3 0) (replicate 128 0) (replicate 8 0) (replicate 8 0) (replicate 1408 0) (replicate 512 0) (replicate 512 0) (replicate 6 0)
 unfolding
-    blank setsOf endsOf endOf rowsOf reachOf ofRow pathsOf pathsInOrder spansOf aimsOf numbersOf numbersWith leastOf greatestOf
+    blank setsOf endsOf endOf rowsOf reachOf ofRow pathsOf pathsInOrder spansOf aimsOf numbersWith leastOf greatestOf
     hasKind isLink initiators isInitiator hasPath entryAt written items packed packedBelow digit cells padded inOrder flatMap find keep any atPlace upFrom below64
 holds-blank = record { sets = refl; ends = refl; rows = refl; reach = refl; paths = refl; spans = refl; aims = refl; numbers = refl }
 
@@ -38,7 +38,7 @@ good-greatest p g = go (p .timings) refl
 -- so a good plan's memory is not the memory of no plan
 pub good-not-blank : (p : Plan) → Good p → (sets ends rows reach paths spans aims numbers : List ℕ)
     → Holds p sets ends rows reach paths spans aims numbers → nth numbers 1 ≢ 0
-unfolding numbersOf numbersWith
+unfolding numbersWith
 good-not-blank p g sets ends rows reach paths spans aims numbers h z =
     let e : nth numbers 1 ≡ greatestOf (p .timings) = rw (h .numbers) in
     omega (arith, good-greatest p g)

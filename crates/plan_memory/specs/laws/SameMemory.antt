@@ -84,7 +84,7 @@ module _ {p q : Plan} (s : SamePlan p q) where
     same-aims = ap (cells 512) (fun-ext λ n. same-ofRow (n / 64) _ _ (λ i. same-entryAt aimOf same-aimOf i (n % 64)))
 
   pub same-numbers : numbersOf p ≡ numbersOf q
-  unfolding numbersOf numbersWith
+  unfolding numbersWith
   same-numbers = rw (same-length s, same-initiators s, shuffled-length (s .paths), shuffled-length (s .entries), s .timings)
 
 -- the eight arrays of two plans are equal

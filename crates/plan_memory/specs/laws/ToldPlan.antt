@@ -19,13 +19,13 @@ use Rattle.lists.specs.laws.OneOrder.{Among}
 use Rattle.sets.specs.Set.{member, packed}
 use Rattle.sets.specs.Packed.{member-packed-below}
 use Rattle.plan_rules.specs.Plan.{nth, Device, Link, Route, Timing, Plan, path}
-use Rattle.plan_rules.specs.Meaning.{hasKind, isLink, initiators}
+use Rattle.plan_rules.specs.Meaning.{hasKind, isLink, initiators, leastOf, greatestOf}
 use Rattle.plan_rules.specs.Judge.{outOfRange}
 use Rattle.plan_rules.specs.Canon.{smallFirst}
 use Rattle.plan_rules.specs.Good.{Good, Each, sameLinkNumber}
 use Rattle.plan_rules.specs.laws.InRange.{device-ranged, link-ranged}
 use Rattle.plan_memory.specs.laws.PathRows.{row-length, path-count, links-short}
-use Rattle.plan_memory.specs.Memory.{setsOf, endOf, endsOf, rowsOf, pathRow, pathsInOrder, pathsOf, leastOf, greatestOf, numbersWith, numbersOf}
+use Rattle.plan_memory.specs.Memory.{setsOf, endOf, endsOf, rowsOf, pathRow, pathsInOrder, pathsOf, numbersWith, numbersOf}
 
 -- a word tells the test that it was made of
 pub packed-told : (t u : ℕ → Bool) → packed t ≡ packed u → (k : ℕ) → k < 64 → t k ≡ u k
@@ -102,7 +102,7 @@ module _ (p q : Plan) (e : numbersOf p ≡ numbersOf q) where
   number-told k = ap (λ xs. nth xs k) e
 
   pub told-timings : length (p .timings) ≡ 1 → length (q .timings) ≡ 1 → p .timings ≡ q .timings
-  unfolding numbersOf numbersWith leastOf greatestOf
+  unfolding numbersWith leastOf greatestOf
   told-timings g h = go (p .timings) (q .timings) g h (number-told 0) (number-told 1)
     where
       go : (ts us : List Timing) → length ts ≡ 1 → length us ≡ 1 → leastOf ts ≡ leastOf us → greatestOf ts ≡ greatestOf us → ts ≡ us
@@ -113,11 +113,11 @@ module _ (p q : Plan) (e : numbersOf p ≡ numbersOf q) where
       go (t ∷ s ∷ ts) (u ∷ us) g h a b = absurd (omega arith)
 
   pub told-initiators : rowsOf p ≡ rowsOf q → initiators p ≡ initiators q
-  unfolding numbersOf numbersWith rowsOf
+  unfolding numbersWith rowsOf
   told-initiators f = padded-told 8 0 (initiators p) (initiators q) (number-told 2) f
 
   pub told-paths : Good p → Good q → pathsOf p ≡ pathsOf q → pathsInOrder p ≡ pathsInOrder q
-  unfolding numbersOf numbersWith pathsOf
+  unfolding numbersWith pathsOf
   told-paths g h f =
       let l : length (pathsInOrder p) ≡ length (pathsInOrder q) = path-count p (g .lengths) (g .ranges) ∙ number-told 3 ∙ sym (path-count q (h .lengths) (h .ranges)) in
       let same = even-length pathRow 11 _ row-length (pathsInOrder p) (links-short p (g .lengths) (g .ranges)) ∙ ap (λ n. 11 * n) l ∙ sym (even-length pathRow 11 _ row-length (pathsInOrder q) (links-short q (h .lengths) (h .ranges))) in

@@ -9,7 +9,8 @@ use lib.Dec.{eqb}
 use borrow.Author.Tests.{ne-eqb}
 use Rattle.lists.specs.Search.{isSome}
 use Rattle.plan_rules.specs.Plan.{nth, Plan, blank}
-use Rattle.plan_memory.specs.Memory.{leastOf, greatestOf, numbersWith, numbersOf}
+use Rattle.plan_rules.specs.Meaning.{leastOf, greatestOf}
+use Rattle.plan_memory.specs.Memory.{numbersWith}
 use Rattle.plan_view.specs.View.{Timed}
 
 module _ (size : ℕ) (p : Plan) (numbers : List ℕ) (is : numbers ≡ numbersWith size p) where
@@ -22,6 +23,6 @@ module _ (size : ℕ) (p : Plan) (numbers : List ℕ) (is : numbers ≡ numbersW
   greatest-told = rw is
 
 pub loaded-told : (o : Option Plan) (numbers : List ℕ) → Timed o numbers → not (eqb (nth numbers 1) 0) ≡ isSome o
-unfolding isSome numbersOf numbersWith greatestOf blank
+unfolding isSome numbersWith greatestOf blank
 loaded-told none numbers t = rw (t .numbers)
 loaded-told (some p) numbers t = rw (t .numbers, ne-eqb (greatestOf (p .timings)) 0 (λ e. omega (arith, t .some-interval p refl)))

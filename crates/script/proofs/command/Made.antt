@@ -1,29 +1,37 @@
 -- A command by the words behind its name. Assumes nothing.
 use mathlib.Core.Path.{_≡_, refl, sym, ap, _∙_}
 use mathlib.Core.List.{List, [], _∷_}
-use mathlib.Core.Bool.{Bool, true, false}
-use Prim.Native.Nat.{ℕ, suc, _+_, _<_}
+use mathlib.Core.Option.{Option, none}
+use mathlib.Core.Bool.{Bool, true, false, not}
+use Prim.Native.Nat.{ℕ, suc, _+_, _≤_, _<_}
 use native.Mathlib.Omega.{arith}
 use lib.ListN.{length, getD, take, drop, length-drop, drop-of-length-le}
 use lib.Seq.{drop-cons, take-all, getD-take}
+use borrow.Author.Tests.{not-true, not-false}
 use Rattle.lists.specs.Search.{isSome}
-use Rattle.lists.specs.laws.Bools.{not-some, is-some}
+use Rattle.lists.specs.laws.Bools.{none-some, not-some, is-some}
 use Rattle.words.specs.Words.{inFront, wordsOf, numbersOf}
 use Rattle.words.specs.Reading.{WordEnds, NumbersRead, behindWord}
 use Rattle.words.specs.laws.Words.{in-word-begin, left-over, more-words}
 use Rattle.hex.specs.Hex.{bytesOf}
+use Rattle.script.specs.declared.command.Kind.{Kind}
+use Rattle.script.specs.declared.command.Kind.the-variants as kind
 use Rattle.script.specs.declared.command.Command.{Command}
-use Rattle.script.specs.declared.command.Command.the-variants.{Bad, Load, TimeCode, Request, Reply, Reading, Out, SetWatchdog}
-use Rattle.script.specs.Script.{numbered, load, alone, timeCode, request, reply, reading, writeOut, setWatchdog}
+use Rattle.script.specs.declared.command.Command.the-variants.{Bad, Load}
+use Rattle.script.specs.Script.{mosts, made, numbered, load, alone}
 
 -- a command that is its name
 pub no-words : (c : Command) (line : List ℕ) (end : ℕ) → end ≡ length line → c ≡ alone c (behindWord (drop end line))
-unfolding alone numbered numbersOf behindWord
+unfolding alone behindWord
 no-words c line end e = rw (drop-of-length-le line {i = end} (omega arith))
 
 pub some-words : (c : Command) (line : List ℕ) (end : ℕ) → end < length line → Bad ≡ alone c (behindWord (drop end line))
-unfolding alone numbered
-some-words c line end h = rw (left-over line end h, numbered)
+unfolding alone numbersOf
+some-words c line end h = go (behindWord (drop end line)) (left-over line end h)
+  where
+    go : (ws : List (List ℕ)) → numbersOf [] ws ≡ none → Bad ≡ alone c ws
+    go [] e = none-some (sym e)
+    go (w ∷ ws) e = refl
 
 -- `load`
 pub load-nothing : (line : List ℕ) (end : ℕ) → end ≡ length line → Bad ≡ load (behindWord (drop end line))
@@ -55,43 +63,40 @@ module _ (line s : List ℕ) (end size : ℕ) (h : end < length line) (e : s ≡
   unfolding load
   load-bytes k n = rw (one-word k, (is-some (bytesOf s) n) .1, load)
 
--- a command of numbers
-module _ (mosts : List ℕ) (ws : List (List ℕ)) (cells : List ℕ) {r : Bool} (f : NumbersRead mosts (numbersOf mosts ws) cells r) (made : List ℕ → Command) where
-  pub numbers-bad : r ≡ false → Bad ≡ numbered mosts made ws
+-- a command of numbers: of the cells only those count that were read
+made-of-read : (k : Kind) (cells : List ℕ) → made k (take (length (mosts k)) cells) ≡ made k cells
+unfolding made mosts
+made-of-read k cells = go k
+  where
+    cell : (n i : ℕ) → i < n → getD (take n cells) i 0 ≡ getD cells i 0
+    cell n i h = getD-take n cells i 0 h
+
+    go : (k : Kind) → made k (take (length (mosts k)) cells) ≡ made k cells
+    go kind.TimeCode = rw (cell 3 0 (omega arith), cell 3 1 (omega arith), cell 3 2 (omega arith))
+    go kind.Request = rw (cell 4 0 (omega arith), cell 4 1 (omega arith), cell 4 2 (omega arith), cell 4 3 (omega arith))
+    go kind.Reply = rw (cell 3 0 (omega arith), cell 3 1 (omega arith), cell 3 2 (omega arith))
+    go kind.Reading = rw (cell 1 0 (omega arith))
+    go kind.Out = rw (cell 1 0 (omega arith))
+    go kind.SetWatchdog = rw (cell 5 0 (omega arith), cell 5 1 (omega arith), cell 5 2 (omega arith), cell 5 3 (omega arith), cell 5 4 (omega arith))
+
+pub few : (k : Kind) → length (mosts k) ≤ 5
+unfolding mosts
+few kind.TimeCode = omega arith
+few kind.Request = omega arith
+few kind.Reply = omega arith
+few kind.Reading = omega arith
+few kind.Out = omega arith
+few kind.SetWatchdog = omega arith
+
+module _ {ms cells : List ℕ} {r : Bool} (k : Kind) (bounds : ms ≡ mosts k) where
+  pub numbers-bad : (ws : List (List ℕ)) → NumbersRead ms (numbersOf ms ws) cells r → not r ≡ true → Bad ≡ numbered k ws
   unfolding numbered
-  numbers-bad e = rw (f .bad e, numbered)
+  numbers-bad ws f e = rw ((rw bounds at f) .bad (not-true r e), numbered)
 
-  numbers-good : r ≡ true → made (take (length mosts) cells) ≡ numbered mosts made ws
-  unfolding numbered
-  numbers-good e = rw (f .good e, numbered)
+  module _ {j : Kind} (is : k ≡ j) where
+    pub in-bound : {o : Option (List ℕ)} → NumbersRead ms o cells r → not r ≡ false → (i : ℕ) → i < length (mosts j) → getD cells i 0 ≤ getD (mosts j) i 0
+    in-bound f e i h = (rw (bounds ∙ ap mosts is) at f) .small i (not-false r e) h
 
-module _ (ws : List (List ℕ)) (cells : List ℕ) {r : Bool} (e : r ≡ true) where
-  cell-at : (k i : ℕ) → i < k → getD cells i 0 ≡ getD (take k cells) i 0
-  cell-at k i h = sym (getD-take k cells i 0 h)
-
-  abbrev pub IsRead : List ℕ → Type 0
-  IsRead mosts = NumbersRead mosts (numbersOf mosts ws) cells r
-
-  pub made-time-code : IsRead (255 ∷ 4_294_967_295 ∷ 4_096 ∷ []) → TimeCode (getD cells 0 0) (getD cells 1 0) (getD cells 2 0) ≡ timeCode ws
-  unfolding timeCode
-  made-time-code f = rw (cell-at 3 0 (omega arith), cell-at 3 1 (omega arith), cell-at 3 2 (omega arith)) (numbers-good _ ws cells f _ e)
-
-  pub made-request : IsRead (255 ∷ 255 ∷ 255 ∷ 65_535 ∷ []) → Request (getD cells 0 0) (getD cells 1 0) (getD cells 2 0) (getD cells 3 0) ≡ request ws
-  unfolding request
-  made-request f = rw (cell-at 4 0 (omega arith), cell-at 4 1 (omega arith), cell-at 4 2 (omega arith), cell-at 4 3 (omega arith)) (numbers-good _ ws cells f _ e)
-
-  pub made-reply : IsRead (255 ∷ 65_535 ∷ 255 ∷ []) → Reply (getD cells 0 0) (getD cells 1 0) (getD cells 2 0) ≡ reply ws
-  unfolding reply
-  made-reply f = rw (cell-at 3 0 (omega arith), cell-at 3 1 (omega arith), cell-at 3 2 (omega arith)) (numbers-good _ ws cells f _ e)
-
-  pub made-reading : IsRead (4_294_967_295 ∷ []) → Reading (getD cells 0 0) ≡ reading ws
-  unfolding reading
-  made-reading f = rw (cell-at 1 0 (omega arith)) (numbers-good _ ws cells f _ e)
-
-  pub made-write-out : IsRead (32_768 ∷ []) → Out (getD cells 0 0) ≡ writeOut ws
-  unfolding writeOut
-  made-write-out f = rw (cell-at 1 0 (omega arith)) (numbers-good _ ws cells f _ e)
-
-  pub made-set-watchdog : IsRead (4_294_967_295 ∷ 4_294_967_295 ∷ 4_294_967_295 ∷ 4_294_967_295 ∷ 4_294_967_295 ∷ []) → SetWatchdog (getD cells 0 0) (getD cells 1 0) (getD cells 2 0) (getD cells 3 0) (getD cells 4 0) ≡ setWatchdog ws
-  unfolding setWatchdog
-  made-set-watchdog f = rw (cell-at 5 0 (omega arith), cell-at 5 1 (omega arith), cell-at 5 2 (omega arith), cell-at 5 3 (omega arith), cell-at 5 4 (omega arith)) (numbers-good _ ws cells f _ e)
+    pub numbers-good : (ws : List (List ℕ)) → NumbersRead ms (numbersOf ms ws) cells r → not r ≡ false → made j cells ≡ numbered k ws
+    unfolding numbered
+    numbers-good ws f e = ap (λ (x : Kind). made x cells) (sym is) ∙ sym (made-of-read k cells) ∙ rw ((rw bounds at f) .good (not-false r e), numbered)

@@ -1,7 +1,7 @@
 -- A command by its name. Assumes nothing.
 use mathlib.Core.Path.{_≡_, refl, sym, ap, _∙_}
 use mathlib.Core.List.{List, [], _∷_}
-use mathlib.Core.Bool.{true, false}
+use mathlib.Core.Bool.{false}
 use Prim.Native.Nat.{ℕ, _<_}
 use native.Mathlib.Omega.{arith}
 use lib.ListN.{length, getD, take, drop}
@@ -9,15 +9,14 @@ use borrow.Author.Tests.{eq-eqb, ne-eqb}
 use Rattle.plan_rules.specs.Print.{text}
 use Rattle.words.specs.Words.{same}
 use Rattle.words.specs.Reading.{WordEnds, behindWord}
-use Rattle.words.specs.laws.Words.{same-true}
 use Rattle.script.specs.declared.command.Command.{Command}
 use Rattle.script.specs.declared.command.Command.the-variants.{Skip, Bad}
 use Rattle.script.specs.Script.{commands, named, ofWords, commandOf}
 
 -- the name that ends at a place is that of a row, and so are the words behind it read
-pub by-name : (line : List ℕ) (end : ℕ) (n : List ℕ) {x : Command} → same (take end line) n ≡ true → x ≡ named commands n (behindWord (drop end line))
+pub by-name : (line : List ℕ) (end : ℕ) (n : List ℕ) {x : Command} → take end line ≡ n → x ≡ named commands n (behindWord (drop end line))
     → x ≡ named commands (take end line) (behindWord (drop end line))
-by-name line end n e f = f ∙ sym (ap (λ (m : List ℕ). named commands m (behindWord (drop end line))) (same-true (take end line) n e))
+by-name line end n e f = f ∙ sym (ap (λ (m : List ℕ). named commands m (behindWord (drop end line))) e)
 
 -- or of none
 pub no-name : (name : List ℕ) (ws : List (List ℕ)) → same name (text "load") ≡ false → same name (text "clear") ≡ false → same name (text "tc") ≡ false

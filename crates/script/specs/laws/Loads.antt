@@ -16,9 +16,11 @@ use Rattle.words.specs.Words.{same, numbersOf}
 use Rattle.words.specs.Reading.{WordEnds, behindWord}
 use Rattle.words.specs.laws.Words.{same-true, first-word}
 use Rattle.hex.specs.Hex.{bytesOf}
+use Rattle.script.specs.declared.command.Kind.{Kind}
+use Rattle.script.specs.declared.command.Kind.the-variants as kind
 use Rattle.script.specs.declared.command.Command.{Command}
 use Rattle.script.specs.declared.command.Command.the-variants.{Skip, Bad, Load, Clear, TimeCode, Request, Reply, Reading, Out, Watchdog, SetWatchdog}
-use Rattle.script.specs.Script.{numbered, load, alone, timeCode, request, reply, reading, writeOut, setWatchdog, Row, commands, named, ofWords, commandOf}
+use Rattle.script.specs.Script.{mosts, made, numbered, load, alone, Row, commands, named, ofWords, commandOf}
 
 -- the line is a load of the byte string from a place on
 pub record Loads (s : List ℕ) (at : ℕ) : Type 0 where
@@ -39,13 +41,27 @@ isLoad Watchdog = false
 isLoad (SetWatchdog l s r b g) = false
 
 -- a command of numbers is no load, and so is that of every row but the first
-no-load : (ws : List (List ℕ)) (mosts : List ℕ) (made : List ℕ → Command) → ((ns : List ℕ) → isLoad (made ns) ≡ false) → isLoad (numbered mosts made ws) ≡ false
+made-no-load : (k : Kind) (ns : List ℕ) → isLoad (made k ns) ≡ false
+unfolding made isLoad
+made-no-load kind.TimeCode ns = refl
+made-no-load kind.Request ns = refl
+made-no-load kind.Reply ns = refl
+made-no-load kind.Reading ns = refl
+made-no-load kind.Out ns = refl
+made-no-load kind.SetWatchdog ns = refl
+
+no-load : (k : Kind) (ws : List (List ℕ)) → isLoad (numbered k ws) ≡ false
 unfolding numbered isLoad
-no-load ws mosts made f = go (numbersOf mosts ws) refl
+no-load k ws = go (numbersOf (mosts k) ws) refl
   where
-    go : (o : Option (List ℕ)) → numbersOf mosts ws ≡ o → isLoad (numbered mosts made ws) ≡ false
+    go : (o : Option (List ℕ)) → numbersOf (mosts k) ws ≡ o → isLoad (numbered k ws) ≡ false
     go none e = rw (e, numbered)
-    go (some ns) e = rw (e, numbered) (f ns)
+    go (some ns) e = rw (e, numbered) (made-no-load k ns)
+
+alone-no-load : (c : Command) (ws : List (List ℕ)) → isLoad c ≡ false → isLoad (alone c ws) ≡ false
+unfolding alone isLoad
+alone-no-load c [] h = h
+alone-no-load c (w ∷ ws) h = refl
 
 others : (rs : List Row) (name : List ℕ) (ws : List (List ℕ)) → Every (λ (r : Row). isLoad (r .1 ws) ≡ false) rs → isLoad (named rs name ws) ≡ false
 unfolding named isLoad
@@ -57,24 +73,15 @@ others (r ∷ rs) name ws f = go (others rs name ws (f .1)) (same name (r .0)) r
     go ih false e = rw (e, named) ih
 
 only-load : (name : List ℕ) (ws : List (List ℕ)) (at : ℕ) → named commands name ws ≡ Load at → (name ≡ text "load") × (load ws ≡ Load at)
-unfolding named commands isLoad alone timeCode request reply reading writeOut setWatchdog
+unfolding named commands isLoad
 only-load name ws at h = go (same name (text "load")) refl
   where
     go : (b : Bool) → same name (text "load") ≡ b → (name ≡ text "load") × (load ws ≡ Load at)
     go true e = (same-true name (text "load") e, rw (e, named) at h)
     go false e =
         let f : Every (λ (r : Row). isLoad (r .1 ws) ≡ false) (drop 1 commands) = (
-          no-load ws _ _ (λ _. refl),
-          (
-            no-load ws _ _ (λ _. refl),
-            (
-              no-load ws _ _ (λ _. refl),
-              (
-                no-load ws _ _ (λ _. refl),
-                (no-load ws _ _ (λ _. refl), (no-load ws _ _ (λ _. refl), (no-load ws _ _ (λ _. refl), (no-load ws _ _ (λ _. refl), tt)))),
-              ),
-            ),
-          ),
+          alone-no-load Clear ws refl,
+          (no-load _ ws, (no-load _ ws, (no-load _ ws, (no-load _ ws, (no-load _ ws, (alone-no-load Watchdog ws refl, (no-load _ ws, tt))))))),
         )
         in
         not-both (ap isLoad (rw (e, named) at h)) (others (drop 1 commands) name ws f)

@@ -11,9 +11,11 @@ use Rattle.lists.specs.laws.Append.{Every}
 use Rattle.words.specs.Words.{same, wordsOf, numbersOf}
 use Rattle.words.specs.laws.Numbers.{each-most}
 use Rattle.hex.specs.Hex.{bytesOf}
+use Rattle.script.specs.declared.command.Kind.{Kind}
+use Rattle.script.specs.declared.command.Kind.the-variants as kind
 use Rattle.script.specs.declared.command.Command.{Command}
 use Rattle.script.specs.declared.command.Command.the-variants.{Skip, Bad, Load, Clear, TimeCode, Request, Reply, Reading, Out, Watchdog, SetWatchdog}
-use Rattle.script.specs.Script.{numbered, load, alone, timeCode, request, reply, reading, writeOut, setWatchdog, Row, commands, named, ofWords, commandOf}
+use Rattle.script.specs.Script.{mosts, made, numbered, load, alone, Row, commands, named, ofWords, commandOf}
 
 -- "BUF (0 to 4,096)", "ROOM bytes (0 to 32,768)"
 abbrev pub Rooms : Command → Type 0
@@ -29,15 +31,28 @@ Rooms (Out r) = r ≤ 32_768
 Rooms Watchdog = Unit {0}
 Rooms (SetWatchdog l s r b g) = Unit {0}
 
--- a command of numbers, and one of a table
-numbered-rooms : (mosts : List ℕ) (made : List ℕ → Command) (ws : List (List ℕ)) → ((ns : List ℕ) → ((i : ℕ) → i < length mosts → getD ns i 0 ≤ getD mosts i 0) → Rooms (made ns))
-    → Rooms (numbered mosts made ws)
+-- a command of numbers, one that is its name, and one of a table
+made-rooms : (k : Kind) (ns : List ℕ) → ((i : ℕ) → i < length (mosts k) → getD ns i 0 ≤ getD (mosts k) i 0) → Rooms (made k ns)
+unfolding made mosts
+made-rooms kind.TimeCode ns f = f 2 (omega arith)
+made-rooms kind.Request ns f = tt
+made-rooms kind.Reply ns f = tt
+made-rooms kind.Reading ns f = tt
+made-rooms kind.Out ns f = f 0 (omega arith)
+made-rooms kind.SetWatchdog ns f = tt
+
+numbered-rooms : (k : Kind) (ws : List (List ℕ)) → Rooms (numbered k ws)
 unfolding numbered
-numbered-rooms mosts made ws f = go (numbersOf mosts ws) refl
+numbered-rooms k ws = go (numbersOf (mosts k) ws) refl
   where
-    go : (o : Option (List ℕ)) → numbersOf mosts ws ≡ o → Rooms (numbered mosts made ws)
+    go : (o : Option (List ℕ)) → numbersOf (mosts k) ws ≡ o → Rooms (numbered k ws)
     go none e = rw (e, numbered) tt
-    go (some ns) e = rw (e, numbered) (f ns (λ i h. each-most mosts ws ns i e h))
+    go (some ns) e = rw (e, numbered) (made-rooms k ns (λ i h. each-most (mosts k) ws ns i e h))
+
+alone-rooms : (c : Command) (ws : List (List ℕ)) → Rooms c → Rooms (alone c ws)
+unfolding alone
+alone-rooms c [] h = h
+alone-rooms c (w ∷ ws) h = tt
 
 load-rooms : (ws : List (List ℕ)) → Rooms (load ws)
 unfolding load
@@ -59,8 +74,8 @@ named-rooms (r ∷ rs) name ws f = go (named-rooms rs name ws (f .1)) (same name
     go ih false e = rw (e, named) ih
 
 every-room : (ws : List (List ℕ)) → Every (λ (r : Row). Rooms (r .1 ws)) commands
-unfolding commands alone timeCode request reply reading writeOut setWatchdog
-every-room ws = (load-rooms ws, (numbered-rooms [] _ ws (λ ns f. tt), (numbered-rooms _ _ ws (λ ns f. f 2 (omega arith)), (numbered-rooms _ _ ws (λ ns f. tt), (numbered-rooms _ _ ws (λ ns f. tt), (numbered-rooms _ _ ws (λ ns f. tt), (numbered-rooms _ _ ws (λ ns f. f 0 (omega arith)), (numbered-rooms [] _ ws (λ ns f. tt), (numbered-rooms _ _ ws (λ ns f. tt), tt)))))))))
+unfolding commands
+every-room ws = (load-rooms ws, (alone-rooms Clear ws tt, (numbered-rooms _ ws, (numbered-rooms _ ws, (numbered-rooms _ ws, (numbered-rooms _ ws, (numbered-rooms _ ws, (alone-rooms Watchdog ws tt, (numbered-rooms _ ws, tt)))))))))
 
 pub line-rooms : (s : List ℕ) → Rooms (commandOf s)
 unfolding commandOf ofWords

@@ -10,7 +10,6 @@ use Rattle.plan_rules.specs.laws.Fair.{Fair}
 use Rattle.plan_rules.specs.laws.Verdicts.{without-timing, with-overrun, with-clash}
 use Rattle.plan_rules.specs.laws.Whole.{Clean, clean-counts}
 use Rattle.plan_rules.specs.laws.Accepted.{file-fair, clean-good}
-use Rattle.plan_memory.specs.Memory.{numbersOf}
 use Rattle.plan_rules.specs.Verdict.{searchOf}
 use Rattle.whole.proofs.Whole.{without, with-them, few, found, found-nothing}
 use Rattle.whole.proofs.judge_whole.Statement.{statement}
@@ -24,14 +23,12 @@ timed : (c : tie.Else1) → given (c .before .before .before .args .file .now) .
 timed c = with-them _ (c .before .before .before .pre .7) (c .if1 .left)
 
 overrun-is : (c : tie.After-find-overrun) → c .find-overrun .result ≡ searchOf (overrun (given (c .before .before .before .before .args .file .now) .entries))
-unfolding numbersOf
 overrun-is c = let b = c .before .before .before .before in c .find-overrun .ensures _ _ (fair b) (b .pre .3) (b .pre .5) (b .pre .7)
 
 no-overrun : (c : tie.After-find-clash) → overrun (given (c .before .before .before .before .before .before .before .args .file .now) .entries) ≡ none
 no-overrun c = found-nothing _ (sym (overrun-is (c .before .before .before)) ∙ c .before .enum-told .given .1)
 
 clash-is : (c : tie.After-find-clash) → c .find-clash .result ≡ searchOf (clash (given (c .before .before .before .before .before .before .before .args .file .now)) (given (c .before .before .before .before .before .before .before .args .file .now) .entries))
-unfolding numbersOf
 clash-is c = let b = c .before .before .before .before .before .before .before in c .find-clash .ensures _ _ (fair b) (no-overrun c) (b .pre .3) (b .pre .4) (b .pre .5) (b .pre .6) (b .pre .7)
 
 -- behind the last the file is clean
@@ -83,7 +80,6 @@ counted-requires : tie.Need-counted-requires
 counted-requires c κs = few _ (c .before .before .before .before .before .before .before .before .before .pre .7) (clean-good _ _ (clean c))
 
 returns-4 : tie.Need-returns-4
-unfolding numbersOf
 returns-4 c = let b = c .before .before .before .before .before .before .before .before .before .before in c .counted .ensures _ _ (fair b) (b .pre .2) (b .pre .7) ∙ sym (clean-counts _ _ (clean (c .before)))
 
 pub judge-whole-spec : {M : Type 1} → statement M

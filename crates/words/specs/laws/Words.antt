@@ -1,16 +1,18 @@
--- Laws of words: lists that are told to be the same are, every line begins with a word, and the words behind a place.
+-- Laws of words: lists that are told to be the same are, and only they, every line begins with a word, and the words behind a place.
 use mathlib.Core.Path.{_≡_, refl, ap, _∙_}
 use mathlib.Core.List.{List, [], _∷_}
 use mathlib.Core.Option.{none}
-use mathlib.Core.Bool.{Bool, true, false, and-false}
+use mathlib.Core.Logic.{_≢_, _↔_}
+use mathlib.Core.Bool.{Bool, true, false}
 use Prim.Native.Nat.{ℕ, suc, _+_, _<_}
 use native.Mathlib.Numerals.{add-one}
 use native.Mathlib.Omega.{arith}
 use lib.ListN.{length, take, drop}
 use lib.Seq.{drop-cons, drop-drop}
 use lib.Dec.{eqb}
-use borrow.Author.Tests.{eqb-true}
-use Rattle.lists.specs.laws.Bools.{both-true, not-both}
+use borrow.Author.Tests.{eqb-true, eq-eqb}
+use Rattle.lists.specs.laws.Bools.{both-true, true-both, not-both, same-test}
+use Rattle.lists.specs.laws.Answers.{it-is-not}
 use Rattle.words.specs.Words.{same, inFront, wordsOf, numbersOf}
 use Rattle.words.specs.Reading.{WordEnds, behindWord}
 
@@ -21,12 +23,17 @@ same-true [] (y ∷ ys) h = not-both h refl
 same-true (x ∷ xs) [] h = not-both h refl
 same-true (x ∷ xs) (y ∷ ys) h = let p = both-true (eqb x y) (same xs ys) h in rw (eqb-true x y (p .0), same-true xs ys (p .1))
 
-pub same-lengths : (a b : List ℕ) → (length a ≡ length b → ⊥) → same a b ≡ false
+same-itself : (a : List ℕ) → same a a ≡ true
 unfolding same
-same-lengths [] [] h = absurd (h refl)
-same-lengths [] (y ∷ ys) h = refl
-same-lengths (x ∷ xs) [] h = refl
-same-lengths (x ∷ xs) (y ∷ ys) h = rw (same-lengths xs ys (λ e. h (ap suc e))) (and-false (eqb x y))
+same-itself [] = refl
+same-itself (x ∷ xs) = true-both (eq-eqb x x refl) (same-itself xs)
+
+-- whoever says whether two lists are equal says what `same` does
+pub same-says : (a b : List ℕ) {r : Bool} → (r ≡ true) ↔ (a ≡ b) → same a b ≡ r
+same-says a b {r} says = same-test (same a b) r (λ e. (says .1) (same-true a b e)) (λ e. rw ((says .0) e) (same-itself b))
+
+pub same-lengths : (a b : List ℕ) → length a ≢ length b → same a b ≡ false
+same-lengths a b n = same-says a b (it-is-not (λ e. n (ap length e)))
 
 pub first-word : (s : List ℕ) → (n : ℕ) × WordEnds s n
 unfolding wordsOf inFront behindWord

@@ -19,7 +19,8 @@ use Rattle.plan_rules.specs.Copy.{copyRows, copyRefusal, copyAnswer, copied}
 use Rattle.plan_rules.specs.Good.{Good}
 use Rattle.plan_rules.specs.laws.Size.{most-bytes}
 use Rattle.plan_rules.specs.laws.Copies.{no-room, answers-size, puts-bytes}
-use Rattle.plan_memory.specs.Memory.{setsOf, endsOf, rowsOf, pathsOf, spansOf, aimsOf, leastOf, greatestOf, numbersWith, numbersOf}
+use Rattle.plan_rules.specs.Meaning.{leastOf, greatestOf}
+use Rattle.plan_memory.specs.Memory.{setsOf, endsOf, rowsOf, pathsOf, spansOf, aimsOf, numbersWith, numbersOf}
 use Rattle.plan_memory.specs.Held.{Held, HoldsPlan}
 use Rattle.plan_memory.specs.laws.BlankMemory.{good-not-blank}
 use Rattle.writing.specs.Out.{outBytes}
@@ -38,12 +39,12 @@ timing-out (t ∷ s ∷ ts) h = absurd (omega arith)
 
 -- the bytes that the memory of a plan gives are those of the plan
 plan-out : (p : Plan) → Good p → canonical p ≡ p → outBytes (setsOf p) (endsOf p) (rowsOf p) (pathsOf p) (spansOf p) (aimsOf p) (numbersOf p) ≡ written p
-unfolding outBytes setsOf numbersOf numbersWith written items
+unfolding outBytes setsOf numbersWith written items
 plan-out p good e = rw (devices-out p good e, links-out p good e, paths-out p good e, entries-out p good e, timing-out (p .timings) (good .timing)) (simp flat-append)
 
 module _ {sets ends rows reach paths spans aims numbers : List ℕ} where
   no-interval : Held none sets ends rows reach paths spans aims numbers → nth numbers 1 ≡ 0
-  unfolding numbersOf numbersWith greatestOf blank
+  unfolding numbersWith greatestOf blank
   no-interval h = ap (λ (l : List ℕ). nth l 1) (h .numbers)
 
   module _ (p : Plan) (h : HoldsPlan p sets ends rows reach paths spans aims numbers) where
@@ -51,7 +52,7 @@ module _ {sets ends rows reach paths spans aims numbers : List ℕ} where
     an-interval = good-not-blank p (h .good) sets ends rows reach paths spans aims numbers (h .holds)
 
     size-at : nth numbers 5 % 65536 ≡ length (written p)
-    unfolding numbersOf numbersWith
+    unfolding numbersWith
     size-at = omega (arith, ap (λ (l : List ℕ). nth l 5) (h .holds .numbers), most-bytes p (h .good))
 
     bytes-at : outBytes sets ends rows paths spans aims numbers ≡ written p
