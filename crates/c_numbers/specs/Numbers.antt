@@ -4,12 +4,12 @@ use mathlib.Core.List.{List, [], _∷_}
 use mathlib.Core.Bool.{true, false}
 use lib.Dec.{eqb}
 use Rattle.lists.specs.Cells.{padded}
-use Rattle.plan_rules.specs.declared.Verdict.{Verdict}
-use Rattle.plan_rules.specs.declared.Verdict.the-variants.{Accepted, Faulty, Overrun, Clash}
-use Rattle.plan_rules.specs.declared.Copied.{Copied}
-use Rattle.plan_rules.specs.Plan.{nth}
-use Rattle.plan_rules.specs.Verdict.{number, place}
-use Rattle.plan_rules.specs.Copy.{sized}
+use Rattle.rules_plan.specs.declared.Verdict.{Verdict}
+use Rattle.rules_plan.specs.declared.Verdict.the-variants.{Accepted, Faulty, Overrun, Clash}
+use Rattle.rules_plan.specs.declared.Copied.{Copied}
+use Rattle.rules_plan.specs.Plan.{nth}
+use Rattle.rules_plan.specs.Verdict.{number, place}
+use Rattle.rules_plan.specs.Copy.{sized}
 
 -- accepted: 0 devices links paths entries; 1 to 12: number place 0 0 0; 13 initiator slot 0 0; 14 slot smaller greater link
 unfoldable pub verdictNumbers : Verdict → List ℕ

@@ -1,7 +1,7 @@
 // The answer of writing out as two numbers.
 ghost use mathlib.Core.Path.{_≡_};
 ghost use Rattle.c_numbers.specs.Numbers.{sizedNumbers};
-use plan_rules::Copied;
+use rules_plan::Copied;
 
 // Document 01's number of what writing out answers, and the size.
 pub fn sized_numbers(copied: Copied) -> [u32; 2]

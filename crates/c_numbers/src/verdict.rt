@@ -2,7 +2,7 @@
 ghost use mathlib.Core.Path.{_≡_};
 ghost use Prim.Native.Nat.{_%_};
 ghost use Rattle.c_numbers.specs.Numbers.{verdictNumbers, verdictOf};
-use plan_rules::Verdict;
+use rules_plan::Verdict;
 
 // Document 01's number of a verdict, then its place, all else 0.
 pub fn numbers_of(verdict: Verdict) -> [u32; 5]

@@ -6,7 +6,7 @@ use native.Mathlib.Decide.{decLt}
 use native.Mathlib.Omega.{arith}
 use lib.ListN.{length, take, drop}
 use lib.Seq.{length-take-le}
-use Rattle.calls.specs.Calls.{Memory}
+use Rattle.box_calls.specs.Calls.{Memory}
 use Rattle.replay.specs.declared.answers.Desk.{Desk}
 use Rattle.replay.specs.declared.Left.{Left}
 use Rattle.replay.specs.Gather.{Passes, Answered, Taken}

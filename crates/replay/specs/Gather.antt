@@ -5,10 +5,10 @@ use mathlib.Core.Bool.{Bool, true, false}
 use Prim.Native.Nat.{ℕ, _+_, _-_, _%_, _^_, _≤_, _<_}
 use lib.ListN.{length, take, drop}
 use Rattle.lists.specs.Puts.{Puts}
-use Rattle.calls.specs.Calls.{Memory}
-use Rattle.script.specs.Script.{commandOf}
-use Rattle.replies.specs.Texts.{overLongLine}
-use Rattle.desk.specs.Replay.{kept, Replied}
+use Rattle.box_calls.specs.Calls.{Memory}
+use Rattle.script_commands.specs.Script.{commandOf}
+use Rattle.script_answers.specs.Texts.{overLongLine}
+use Rattle.script_desk.specs.Replay.{kept, Replied}
 use Rattle.replay.specs.declared.answers.Desk.{Desk}
 use Rattle.replay.specs.declared.Left.{Left}
 use Rattle.replay.specs.Lines.{NoNewline, LineEnds}

@@ -1,13 +1,23 @@
 // The lines that are in the input buffer answered, and the answers gathered in an output buffer.
-ghost use Rattle.calls.specs.Calls.{memory};
+ghost use Rattle.box_calls.specs.Calls.{memory};
 ghost use Rattle.replay.specs.Gather.{Flushed, Roomy, Gathers, Passes, Ends, Answered};
 use crate::lines::find_newline;
-use box_rules::Watchdog;
-use desk::answer::answer;
-use desk::answer::over_long;
+use file_field::field::part;
 use libc::STDOUT_FILENO;
-use line::print::put;
-use reader::field::part;
+use memory_plan::layout::Aims;
+use memory_plan::layout::Ends;
+use memory_plan::layout::Numbers;
+use memory_plan::layout::Paths;
+use memory_plan::layout::Reach;
+use memory_plan::layout::Rows;
+use memory_plan::layout::Sets;
+use memory_plan::layout::Spans;
+use memory_run::layout::Last;
+use memory_run::layout::Run;
+use out_verdict::print::put;
+use rules_box::Watchdog;
+use script_desk::answer::answer;
+use script_desk::answer::over_long;
 
 // What goes on from line to line: how many lines were read, the five numbers, how many bytes are gathered, whether the rest of a line
 // that is too long is to be passed over, and whether a write failed.
@@ -56,16 +66,16 @@ fn make_room(d: Desk, out: &[u8]) -> Desk
 // One line answered. Lines are counted modulo 2 to the 64, which no input reaches.
 fn answer_line(
     line: &[u8],
-    sets: &mut [u64; 3],
-    ends: &mut [u8; 128],
-    rows: &mut [u8; 8],
-    reach: &mut [u64; 8],
-    paths: &mut [u8; 1408],
-    spans: &mut [u8; 512],
-    aims: &mut [u64; 512],
-    numbers: &mut [u32; 6],
-    run: &mut [u64; 96],
-    last: &mut [u8; 1],
+    sets: &mut Sets,
+    ends: &mut Ends,
+    rows: &mut Rows,
+    reach: &mut Reach,
+    paths: &mut Paths,
+    spans: &mut Spans,
+    aims: &mut Aims,
+    numbers: &mut Numbers,
+    run: &mut Run,
+    last: &mut Last,
     d: Desk,
     text: &mut [u8; 65600],
     out: &mut [u8],
@@ -128,16 +138,16 @@ pub fn pass_over(front: &[u8], d: Desk, text: &mut [u8; 65600], out: &mut [u8]) 
 // A line whose end was read: it is answered, or it was the rest of one that is passed over.
 pub fn end_line(
     line: &[u8],
-    sets: &mut [u64; 3],
-    ends: &mut [u8; 128],
-    rows: &mut [u8; 8],
-    reach: &mut [u64; 8],
-    paths: &mut [u8; 1408],
-    spans: &mut [u8; 512],
-    aims: &mut [u64; 512],
-    numbers: &mut [u32; 6],
-    run: &mut [u64; 96],
-    last: &mut [u8; 1],
+    sets: &mut Sets,
+    ends: &mut Ends,
+    rows: &mut Rows,
+    reach: &mut Reach,
+    paths: &mut Paths,
+    spans: &mut Spans,
+    aims: &mut Aims,
+    numbers: &mut Numbers,
+    run: &mut Run,
+    last: &mut Last,
     d: Desk,
     text: &mut [u8; 65600],
     out: &mut [u8],
@@ -182,16 +192,16 @@ pub struct Rest {
 // Every line of the input that ends there.
 pub fn answer_lines(
     input: &[u8],
-    sets: &mut [u64; 3],
-    ends: &mut [u8; 128],
-    rows: &mut [u8; 8],
-    reach: &mut [u64; 8],
-    paths: &mut [u8; 1408],
-    spans: &mut [u8; 512],
-    aims: &mut [u64; 512],
-    numbers: &mut [u32; 6],
-    run: &mut [u64; 96],
-    last: &mut [u8; 1],
+    sets: &mut Sets,
+    ends: &mut Ends,
+    rows: &mut Rows,
+    reach: &mut Reach,
+    paths: &mut Paths,
+    spans: &mut Spans,
+    aims: &mut Aims,
+    numbers: &mut Numbers,
+    run: &mut Run,
+    last: &mut Last,
     desk: Desk,
     text: &mut [u8; 65600],
     out: &mut [u8],

@@ -3,18 +3,36 @@
 ghost use mathlib.Core.Path.{_≡_};
 ghost use Prim.Native.Nat.{_≤_};
 ghost use lib.ListN.{length, replicate};
-ghost use Rattle.calls.specs.Calls.{memory};
+ghost use Rattle.box_calls.specs.Calls.{memory};
 ghost use Rattle.replay.specs.Gather.{Taken};
 use answers::Desk;
 use answers::answer_lines;
 use answers::end_line;
 use answers::flush;
 use answers::pass_over;
-use box_rules::Watchdog;
+use file_field::field::part;
 use libc::STDERR_FILENO;
 use libc::STDIN_FILENO;
 use lines::shift;
-use reader::field::part;
+use memory_plan::layout::Aims;
+use memory_plan::layout::CELLS;
+use memory_plan::layout::ENDS;
+use memory_plan::layout::Ends;
+use memory_plan::layout::NUMBERS;
+use memory_plan::layout::Numbers;
+use memory_plan::layout::PATH_BYTES;
+use memory_plan::layout::Paths;
+use memory_plan::layout::ROWS;
+use memory_plan::layout::Reach;
+use memory_plan::layout::Rows;
+use memory_plan::layout::SETS;
+use memory_plan::layout::Sets;
+use memory_plan::layout::Spans;
+use memory_run::layout::LAST;
+use memory_run::layout::Last;
+use memory_run::layout::RUN;
+use memory_run::layout::Run;
+use rules_box::Watchdog;
 
 mod answers;
 mod lines;
@@ -69,16 +87,16 @@ struct Left {
 fn take_lines(
     input: &mut [u8],
     len: usize,
-    sets: &mut [u64; 3],
-    ends: &mut [u8; 128],
-    rows: &mut [u8; 8],
-    reach: &mut [u64; 8],
-    paths: &mut [u8; 1408],
-    spans: &mut [u8; 512],
-    aims: &mut [u64; 512],
-    numbers: &mut [u32; 6],
-    run: &mut [u64; 96],
-    last: &mut [u8; 1],
+    sets: &mut Sets,
+    ends: &mut Ends,
+    rows: &mut Rows,
+    reach: &mut Reach,
+    paths: &mut Paths,
+    spans: &mut Spans,
+    aims: &mut Aims,
+    numbers: &mut Numbers,
+    run: &mut Run,
+    last: &mut Last,
     desk: Desk,
     text: &mut [u8; 65600],
     out: &mut [u8],
@@ -119,16 +137,16 @@ fn take_lines(
 fn finish(
     input: &[u8],
     len: usize,
-    sets: &mut [u64; 3],
-    ends: &mut [u8; 128],
-    rows: &mut [u8; 8],
-    reach: &mut [u64; 8],
-    paths: &mut [u8; 1408],
-    spans: &mut [u8; 512],
-    aims: &mut [u64; 512],
-    numbers: &mut [u32; 6],
-    run: &mut [u64; 96],
-    last: &mut [u8; 1],
+    sets: &mut Sets,
+    ends: &mut Ends,
+    rows: &mut Rows,
+    reach: &mut Reach,
+    paths: &mut Paths,
+    spans: &mut Spans,
+    aims: &mut Aims,
+    numbers: &mut Numbers,
+    run: &mut Run,
+    last: &mut Last,
     d: Desk,
     text: &mut [u8; 65600],
     out: &mut [u8],
@@ -158,16 +176,16 @@ fn finish(
 
 // Reads and answers until the input ends or fails, or a write fails. The turns are counted only so that the loop is seen to end.
 fn serve(
-    sets: &mut [u64; 3],
-    ends: &mut [u8; 128],
-    rows: &mut [u8; 8],
-    reach: &mut [u64; 8],
-    paths: &mut [u8; 1408],
-    spans: &mut [u8; 512],
-    aims: &mut [u64; 512],
-    numbers: &mut [u32; 6],
-    run: &mut [u64; 96],
-    last: &mut [u8; 1],
+    sets: &mut Sets,
+    ends: &mut Ends,
+    rows: &mut Rows,
+    reach: &mut Reach,
+    paths: &mut Paths,
+    spans: &mut Spans,
+    aims: &mut Aims,
+    numbers: &mut Numbers,
+    run: &mut Run,
+    last: &mut Last,
     cleared: Watchdog,
 ) {
     let mut input = input_room();
@@ -237,17 +255,17 @@ fn serve(
 
 // "The box starts as after a clear."
 fn main() {
-    let mut sets = [0u64; 3];
-    let mut ends = [0u8; 128];
-    let mut rows = [0u8; 8];
-    let mut reach = [0u64; 8];
-    let mut paths = [0u8; 1408];
-    let mut spans = [0u8; 512];
-    let mut aims = [0u64; 512];
-    let mut numbers = [0u32; 6];
-    let mut run = [0u64; 96];
-    let mut last = [0u8; 1];
-    let cleared = calls::clear::clear(
+    let mut sets = [0u64; SETS];
+    let mut ends = [0u8; ENDS];
+    let mut rows = [0u8; ROWS];
+    let mut reach = [0u64; ROWS];
+    let mut paths = [0u8; PATH_BYTES];
+    let mut spans = [0u8; CELLS];
+    let mut aims = [0u64; CELLS];
+    let mut numbers = [0u32; NUMBERS];
+    let mut run = [0u64; RUN];
+    let mut last = [0u8; LAST];
+    let cleared = box_calls::clear::clear(
         &mut sets,
         &mut ends,
         &mut rows,

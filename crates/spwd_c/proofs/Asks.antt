@@ -8,16 +8,16 @@ use Prim.Native.Nat.{ℕ, _≤_}
 use native.Mathlib.Omega.{arith}
 use mir.Val.{boolByte}
 use Rattle.lists.specs.laws.Bools.{not-both}
-use Rattle.plan_rules.specs.Plan.{Plan}
-use Rattle.plan_rules.specs.Verdict.{number}
-use Rattle.plan_rules.specs.Judge.{judge}
-use Rattle.plan_rules.specs.Canon.{planOf}
-use Rattle.plan_memory.specs.Memory.{Holds}
-use Rattle.plan_memory.specs.Held.{Held}
-use Rattle.plan.specs.Load.{left}
-use Rattle.box_rules.specs.declared.Watchdog.{Watchdog}
-use Rattle.box_rules.specs.State.{cleared, watchdogCleared}
-use Rattle.calls.specs.Calls.{Memory, At}
+use Rattle.rules_plan.specs.Plan.{Plan}
+use Rattle.rules_plan.specs.Verdict.{number}
+use Rattle.rules_plan.specs.Judge.{judge}
+use Rattle.rules_plan.specs.Canon.{planOf}
+use Rattle.memory_plan.specs.Memory.{Holds}
+use Rattle.memory_plan.specs.Held.{Held}
+use Rattle.load_plan.specs.Load.{left}
+use Rattle.rules_box.specs.declared.Watchdog.{Watchdog}
+use Rattle.rules_box.specs.State.{cleared, watchdogCleared}
+use Rattle.box_calls.specs.Calls.{Memory, At}
 use Rattle.spwd_c.specs.Exports.{IsBlank, HoldsIt}
 
 at-most-1 : (b : Bool) → boolByte b ≤ 1

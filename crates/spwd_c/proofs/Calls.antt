@@ -2,9 +2,9 @@
 use mathlib.Core.Path.{_≡_}
 use mathlib.Core.List.{List}
 use Prim.Native.Nat.{ℕ}
-use Rattle.plan_rules.specs.declared.Verdict.{Verdict}
-use Rattle.box_rules.specs.declared.Watchdog.{Watchdog}
-use Rattle.calls.specs.Calls.{Memory, LoadLeaves}
+use Rattle.rules_plan.specs.declared.Verdict.{Verdict}
+use Rattle.rules_box.specs.declared.Watchdog.{Watchdog}
+use Rattle.box_calls.specs.Calls.{Memory, LoadLeaves}
 use Rattle.c_numbers.specs.Numbers.{verdictNumbers}
 use Rattle.spwd_c.specs.Exports.{Loads}
 

@@ -7,18 +7,18 @@ use lib.ListN.{length}
 use lib.Dec.{eqb, ltb}
 use borrow.Author.Tests.{eqb-true, eq-eqb}
 use Rattle.lists.specs.laws.Bools.{cond-cases}
-use Rattle.plan_view.specs.View.{Timed}
-use Rattle.box_rules.specs.declared.Event.the-variants.{TimeCode, Request, Reply, Reading}
-use Rattle.box_rules.specs.declared.Answer.{Answer}
-use Rattle.box_rules.specs.declared.Watchdog.{Watchdog}
-use Rattle.box_rules.specs.State.{Box}
-use Rattle.box_rules.specs.Answer.{values}
-use Rattle.box_rules.specs.Watch.{yes?, elapsed, isOverdue, told as toldOf, fed}
-use Rattle.box_rules.specs.Step.{step, accepts, Outcome}
-use Rattle.box_rules.specs.laws.Steps.{step-cases}
-use Rattle.initiators.specs.Memory.{Finds, Answers, Does}
-use Rattle.events.specs.Values.{listed}
-use Rattle.events.specs.laws.Events.{by-time-code, by-request, by-reply, by-reading}
+use Rattle.memory_plan.specs.View.{Timed}
+use Rattle.rules_box.specs.declared.Event.the-variants.{TimeCode, Request, Reply, Reading}
+use Rattle.rules_box.specs.declared.Answer.{Answer}
+use Rattle.rules_box.specs.declared.Watchdog.{Watchdog}
+use Rattle.rules_box.specs.State.{Box}
+use Rattle.rules_box.specs.Answer.{values}
+use Rattle.rules_box.specs.Watch.{yes?, elapsed, isOverdue, told as toldOf, fed}
+use Rattle.rules_box.specs.Step.{step, accepts, Outcome}
+use Rattle.rules_box.specs.laws.Steps.{step-cases}
+use Rattle.memory_run.specs.Memory.{Finds, Answers, Does}
+use Rattle.run_events.specs.Values.{listed}
+use Rattle.run_events.specs.laws.Events.{by-time-code, by-request, by-reply, by-reading}
 use Rattle.spwd_c.specs.Exports.{TimeCodes, Requests, Replies, Readings, withTimes, reportedWhere}
 
 -- a time-code keeps least and greatest

@@ -7,22 +7,22 @@ use Prim.Native.Nat.{ℕ, _≤_}
 use mathlib.Core.List.{List, _++_}
 use mathlib.Core.Option.{Option, some}
 use lib.ListN.{length, drop}
-use Rattle.plan_rules.specs.Plan.{Plan}
-use Rattle.plan_rules.specs.Verdict.{number}
-use Rattle.plan_rules.specs.Judge.{judge}
-use Rattle.plan_rules.specs.Canon.{planOf}
-use Rattle.plan_rules.specs.Copy.{copyAnswer, copied}
-use Rattle.plan_rules.specs.Print as print
-use Rattle.plan_memory.specs.Memory as plan
-use Rattle.plan_memory.specs.Held.{Held}
-use Rattle.plan.specs.Load.{left}
-use Rattle.box_rules.specs.declared.Event.the-variants.{TimeCode, Request, Reply, Reading}
-use Rattle.box_rules.specs.declared.Answer.{Answer}
-use Rattle.box_rules.specs.declared.Watchdog.{Watchdog}
-use Rattle.box_rules.specs.State.{cleared, watchdogCleared}
-use Rattle.box_rules.specs.Answer.{values}
-use Rattle.events.specs.Values.{listed}
-use Rattle.calls.specs.Calls.{Memory, At, LoadLeaves, Steps}
+use Rattle.rules_plan.specs.Plan.{Plan}
+use Rattle.rules_plan.specs.Verdict.{number}
+use Rattle.rules_plan.specs.Judge.{judge}
+use Rattle.rules_plan.specs.Canon.{planOf}
+use Rattle.rules_plan.specs.Copy.{copyAnswer, copied}
+use Rattle.rules_plan.specs.Print as print
+use Rattle.memory_plan.specs.Memory as plan
+use Rattle.memory_plan.specs.Held.{Held}
+use Rattle.load_plan.specs.Load.{left}
+use Rattle.rules_box.specs.declared.Event.the-variants.{TimeCode, Request, Reply, Reading}
+use Rattle.rules_box.specs.declared.Answer.{Answer}
+use Rattle.rules_box.specs.declared.Watchdog.{Watchdog}
+use Rattle.rules_box.specs.State.{cleared, watchdogCleared}
+use Rattle.rules_box.specs.Answer.{values}
+use Rattle.run_events.specs.Values.{listed}
+use Rattle.box_calls.specs.Calls.{Memory, At, LoadLeaves, Steps}
 use Rattle.c_numbers.specs.Numbers.{verdictNumbers, verdictOf, sizedNumbers}
 
 -- `spwd_c_load`

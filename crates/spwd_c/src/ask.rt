@@ -1,22 +1,32 @@
 // What the lamp on the jig and the reread at the counter ask, as C calls it: 1 for yes, 0 for no.
-ghost use Rattle.calls.specs.Calls.{memory};
+ghost use Rattle.box_calls.specs.Calls.{memory};
 ghost use Rattle.spwd_c.specs.Exports.{IsBlank, HoldsIt};
-use blank::is_blank;
-use box_rules::Watchdog;
-use reread::holds;
+use box_blank::is_blank;
+use box_holds::holds;
+use memory_plan::layout::Aims;
+use memory_plan::layout::Ends;
+use memory_plan::layout::Numbers;
+use memory_plan::layout::Paths;
+use memory_plan::layout::Reach;
+use memory_plan::layout::Rows;
+use memory_plan::layout::Sets;
+use memory_plan::layout::Spans;
+use memory_run::layout::Last;
+use memory_run::layout::Run;
+use rules_box::Watchdog;
 
 // Whether every number of memory and of the five is that of a clear, with the five numbers by value.
 fn blank_with(
-    sets: &[u64; 3],
-    ends: &[u8; 128],
-    rows: &[u8; 8],
-    reach: &[u64; 8],
-    paths: &[u8; 1408],
-    spans: &[u8; 512],
-    aims: &[u64; 512],
-    numbers: &[u32; 6],
-    run: &[u64; 96],
-    last: &[u8; 1],
+    sets: &Sets,
+    ends: &Ends,
+    rows: &Rows,
+    reach: &Reach,
+    paths: &Paths,
+    spans: &Spans,
+    aims: &Aims,
+    numbers: &Numbers,
+    run: &Run,
+    last: &Last,
     w: Watchdog,
 ) -> u32
     ensures { λ r. ⌜ IsBlank (memory (now (sets .entry)) (now (ends .entry)) (now (rows .entry)) (now (reach .entry)) (now (paths .entry)) (now (spans .entry)) (now (aims .entry)) (now (numbers .entry)) (now (run .entry)) (now (last .entry))) w r ⌝ }
@@ -40,16 +50,16 @@ fn blank_with(
 // Whether every number of memory and of the five is that of a clear.
 #[no_mangle]
 pub extern "C" fn spwd_c_is_blank(
-    sets: &[u64; 3],
-    ends: &[u8; 128],
-    rows: &[u8; 8],
-    reach: &[u64; 8],
-    paths: &[u8; 1408],
-    spans: &[u8; 512],
-    aims: &[u64; 512],
-    numbers: &[u32; 6],
-    run: &[u64; 96],
-    last: &[u8; 1],
+    sets: &Sets,
+    ends: &Ends,
+    rows: &Rows,
+    reach: &Reach,
+    paths: &Paths,
+    spans: &Spans,
+    aims: &Aims,
+    numbers: &Numbers,
+    run: &Run,
+    last: &Last,
     watchdog: &Watchdog,
 ) -> u32
     ensures { λ r. ⌜ IsBlank (memory (now (sets .entry)) (now (ends .entry)) (now (rows .entry)) (now (reach .entry)) (now (paths .entry)) (now (spans .entry)) (now (aims .entry)) (now (numbers .entry)) (now (run .entry)) (now (last .entry))) (now (watchdog .entry)) r ⌝ }
@@ -73,22 +83,22 @@ pub extern "C" fn spwd_c_is_blank(
 #[no_mangle]
 pub extern "C" fn spwd_c_holds(
     file: &[u8],
-    sets: &[u64; 3],
-    ends: &[u8; 128],
-    rows: &[u8; 8],
-    reach: &[u64; 8],
-    paths: &[u8; 1408],
-    spans: &[u8; 512],
-    aims: &[u64; 512],
-    numbers: &[u32; 6],
-    other_sets: &mut [u64; 3],
-    other_ends: &mut [u8; 128],
-    other_rows: &mut [u8; 8],
-    other_reach: &mut [u64; 8],
-    other_paths: &mut [u8; 1408],
-    other_spans: &mut [u8; 512],
-    other_aims: &mut [u64; 512],
-    other_numbers: &mut [u32; 6],
+    sets: &Sets,
+    ends: &Ends,
+    rows: &Rows,
+    reach: &Reach,
+    paths: &Paths,
+    spans: &Spans,
+    aims: &Aims,
+    numbers: &Numbers,
+    other_sets: &mut Sets,
+    other_ends: &mut Ends,
+    other_rows: &mut Rows,
+    other_reach: &mut Reach,
+    other_paths: &mut Paths,
+    other_spans: &mut Spans,
+    other_aims: &mut Aims,
+    other_numbers: &mut Numbers,
 ) -> u32
     ensures { λ r. ⌜ HoldsIt (now (file .entry)) (now (sets .entry)) (now (ends .entry)) (now (rows .entry)) (now (reach .entry)) (now (paths .entry)) (now (spans .entry)) (now (aims .entry)) (now (numbers .entry))
         (now («other_sets» .exit)) (now («other_ends» .exit)) (now («other_rows» .exit)) (now («other_reach» .exit)) (now («other_paths» .exit)) (now («other_spans» .exit)) (now («other_aims» .exit)) (now («other_numbers» .exit)) r ⌝ }

@@ -1,24 +1,34 @@
 // Clear and load, as C calls them.
-ghost use Rattle.calls.specs.Calls.{memory, ClearLeaves};
+ghost use Rattle.box_calls.specs.Calls.{memory, ClearLeaves};
 ghost use Rattle.spwd_c.specs.Exports.{Loads};
-use box_rules::Watchdog;
+use box_calls::clear::clear;
+use box_calls::load::load;
 use c_numbers::verdict::numbers_of;
-use calls::clear::clear;
-use calls::load::load;
+use memory_plan::layout::Aims;
+use memory_plan::layout::Ends;
+use memory_plan::layout::Numbers;
+use memory_plan::layout::Paths;
+use memory_plan::layout::Reach;
+use memory_plan::layout::Rows;
+use memory_plan::layout::Sets;
+use memory_plan::layout::Spans;
+use memory_run::layout::Last;
+use memory_run::layout::Run;
+use rules_box::Watchdog;
 
 // The box of a clear, whatever memory held before.
 #[no_mangle]
 pub extern "C" fn spwd_c_clear(
-    sets: &mut [u64; 3],
-    ends: &mut [u8; 128],
-    rows: &mut [u8; 8],
-    reach: &mut [u64; 8],
-    paths: &mut [u8; 1408],
-    spans: &mut [u8; 512],
-    aims: &mut [u64; 512],
-    numbers: &mut [u32; 6],
-    run: &mut [u64; 96],
-    last: &mut [u8; 1],
+    sets: &mut Sets,
+    ends: &mut Ends,
+    rows: &mut Rows,
+    reach: &mut Reach,
+    paths: &mut Paths,
+    spans: &mut Spans,
+    aims: &mut Aims,
+    numbers: &mut Numbers,
+    run: &mut Run,
+    last: &mut Last,
     watchdog: &mut Watchdog,
 )
     ensures { λ _. ⌜ ClearLeaves (memory (now (sets .exit)) (now (ends .exit)) (now (rows .exit)) (now (reach .exit)) (now (paths .exit)) (now (spans .exit)) (now (aims .exit)) (now (numbers .exit)) (now (run .exit)) (now (last .exit))) (now (watchdog .exit)) ⌝ }
@@ -40,16 +50,16 @@ pub extern "C" fn spwd_c_clear(
 // A load with the verdict as numbers, and the five numbers as the answer.
 fn load_with(
     file: &[u8],
-    sets: &mut [u64; 3],
-    ends: &mut [u8; 128],
-    rows: &mut [u8; 8],
-    reach: &mut [u64; 8],
-    paths: &mut [u8; 1408],
-    spans: &mut [u8; 512],
-    aims: &mut [u64; 512],
-    numbers: &mut [u32; 6],
-    run: &mut [u64; 96],
-    last: &mut [u8; 1],
+    sets: &mut Sets,
+    ends: &mut Ends,
+    rows: &mut Rows,
+    reach: &mut Reach,
+    paths: &mut Paths,
+    spans: &mut Spans,
+    aims: &mut Aims,
+    numbers: &mut Numbers,
+    run: &mut Run,
+    last: &mut Last,
     verdict: &mut [u32; 5],
 ) -> Watchdog
     ensures { λ r. ⌜ Loads (now (file .entry)) (memory (now (sets .exit)) (now (ends .exit)) (now (rows .exit)) (now (reach .exit)) (now (paths .exit)) (now (spans .exit)) (now (aims .exit)) (now (numbers .exit)) (now (run .exit)) (now (last .exit))) r (now (verdict .exit)) ⌝ }
@@ -76,16 +86,16 @@ fn load_with(
 #[no_mangle]
 pub extern "C" fn spwd_c_load(
     file: &[u8],
-    sets: &mut [u64; 3],
-    ends: &mut [u8; 128],
-    rows: &mut [u8; 8],
-    reach: &mut [u64; 8],
-    paths: &mut [u8; 1408],
-    spans: &mut [u8; 512],
-    aims: &mut [u64; 512],
-    numbers: &mut [u32; 6],
-    run: &mut [u64; 96],
-    last: &mut [u8; 1],
+    sets: &mut Sets,
+    ends: &mut Ends,
+    rows: &mut Rows,
+    reach: &mut Reach,
+    paths: &mut Paths,
+    spans: &mut Spans,
+    aims: &mut Aims,
+    numbers: &mut Numbers,
+    run: &mut Run,
+    last: &mut Last,
     watchdog: &mut Watchdog,
     verdict: &mut [u32; 5],
 )

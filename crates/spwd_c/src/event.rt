@@ -1,19 +1,25 @@
 // The four events, as C calls them. "A refusal leaves state, buffers and watchdog numbers untouched and answers its number, all else 0."
 ghost use Rattle.spwd_c.specs.Exports.{TimeCodes, Requests, Replies, Readings, withTimes, reportedWhere};
-use box_rules::Watchdog;
-use events::reading::reading;
-use events::values::values_of;
-use requests::reply::reply;
-use requests::request::request;
-use timecodes::time::time_code;
+use memory_plan::layout::Aims;
+use memory_plan::layout::Numbers;
+use memory_plan::layout::Rows;
+use memory_plan::layout::Spans;
+use memory_run::layout::Last;
+use memory_run::layout::Run;
+use rules_box::Watchdog;
+use run_events::reading::reading;
+use run_events::values::values_of;
+use run_requests::reply::reply;
+use run_requests::request::request;
+use run_timecodes::time::time_code;
 
 // A time-code with the five numbers by value, and those after it as the answer.
 fn time_with(
-    spans: &[u8; 512],
-    aims: &[u64; 512],
-    numbers: &[u32; 6],
-    run: &mut [u64; 96],
-    last: &mut [u8; 1],
+    spans: &Spans,
+    aims: &Aims,
+    numbers: &Numbers,
+    run: &mut Run,
+    last: &mut Last,
     w: Watchdog,
     byte: u8,
     clock: u32,
@@ -31,11 +37,11 @@ fn time_with(
 
 #[no_mangle]
 pub extern "C" fn spwd_c_time_code(
-    spans: &[u8; 512],
-    aims: &[u64; 512],
-    numbers: &[u32; 6],
-    run: &mut [u64; 96],
-    last: &mut [u8; 1],
+    spans: &Spans,
+    aims: &Aims,
+    numbers: &Numbers,
+    run: &mut Run,
+    last: &mut Last,
     watchdog: &mut Watchdog,
     byte: u8,
     clock: u32,
@@ -64,11 +70,11 @@ pub extern "C" fn spwd_c_time_code(
 
 #[no_mangle]
 pub extern "C" fn spwd_c_request(
-    rows: &[u8; 8],
-    spans: &[u8; 512],
-    aims: &[u64; 512],
-    numbers: &[u32; 6],
-    run: &mut [u64; 96],
+    rows: &Rows,
+    spans: &Spans,
+    aims: &Aims,
+    numbers: &Numbers,
+    run: &mut Run,
     initiator: u8,
     target: u8,
     kind: u8,
@@ -92,9 +98,9 @@ pub extern "C" fn spwd_c_request(
 
 #[no_mangle]
 pub extern "C" fn spwd_c_reply(
-    rows: &[u8; 8],
-    numbers: &[u32; 6],
-    run: &mut [u64; 96],
+    rows: &Rows,
+    numbers: &Numbers,
+    run: &mut Run,
     initiator: u8,
     number: u16,
     status: u8,
@@ -106,7 +112,7 @@ pub extern "C" fn spwd_c_reply(
 }
 
 // A reading with the five numbers by value: whether the next time-code is overdue, which is then reported.
-fn read_with(numbers: &[u32; 6], w: Watchdog, clock: u32, answer: &mut [u32; 8]) -> bool
+fn read_with(numbers: &Numbers, w: Watchdog, clock: u32, answer: &mut [u32; 8]) -> bool
     ensures { λ r. ⌜ Readings (now (numbers .entry)) w clock (reportedWhere r w) (now (answer .exit)) ⌝ }
 {
     let told = reading(numbers, w, clock);
@@ -118,7 +124,7 @@ fn read_with(numbers: &[u32; 6], w: Watchdog, clock: u32, answer: &mut [u32; 8])
 
 #[no_mangle]
 pub extern "C" fn spwd_c_reading(
-    numbers: &[u32; 6],
+    numbers: &Numbers,
     watchdog: &mut Watchdog,
     clock: u32,
     answer: &mut [u32; 8],

@@ -2,20 +2,28 @@
 ghost use Rattle.spwd_c.specs.Exports.{Prints, WritesOut};
 use c_numbers::copied::sized_numbers;
 use c_numbers::verdict::verdict_of;
-use line::print::print_verdict;
-use writing::out::write_out;
+use memory_plan::layout::Aims;
+use memory_plan::layout::Ends;
+use memory_plan::layout::Numbers;
+use memory_plan::layout::Paths;
+use memory_plan::layout::Reach;
+use memory_plan::layout::Rows;
+use memory_plan::layout::Sets;
+use memory_plan::layout::Spans;
+use out_plan::out::write_out;
+use out_verdict::print::print_verdict;
 
 // "Writing out answers 0 and the size; room beyond it keeps its bytes."
 #[no_mangle]
 pub extern "C" fn spwd_c_write_out(
-    sets: &[u64; 3],
-    ends: &[u8; 128],
-    rows: &[u8; 8],
-    reach: &[u64; 8],
-    paths: &[u8; 1408],
-    spans: &[u8; 512],
-    aims: &[u64; 512],
-    numbers: &[u32; 6],
+    sets: &Sets,
+    ends: &Ends,
+    rows: &Rows,
+    reach: &Reach,
+    paths: &Paths,
+    spans: &Spans,
+    aims: &Aims,
+    numbers: &Numbers,
     out: &mut [u8],
     answer: &mut [u32; 2],
 )

@@ -4,13 +4,19 @@ ghost use mathlib.Core.Path.{_≡_};
 ghost use mathlib.Core.List.{_++_};
 ghost use Prim.Native.Nat.{_≤_};
 ghost use lib.ListN.{length, drop};
-ghost use Rattle.plan_rules.specs.Judge.{judge};
-ghost use Rattle.plan_rules.specs.Print.{line};
+ghost use Rattle.rules_plan.specs.Judge.{judge};
+ghost use Rattle.rules_plan.specs.Print.{line};
 use libc::STDERR_FILENO;
 use libc::STDIN_FILENO;
 use libc::STDOUT_FILENO;
-use line::print::print_verdict;
-use plan::load::load;
+use load_plan::load::load;
+use memory_plan::layout::CELLS;
+use memory_plan::layout::ENDS;
+use memory_plan::layout::NUMBERS;
+use memory_plan::layout::PATH_BYTES;
+use memory_plan::layout::ROWS;
+use memory_plan::layout::SETS;
+use out_verdict::print::print_verdict;
 
 // How much of standard input came, and whether a read failed.
 struct Input {
@@ -50,14 +56,14 @@ fn read_all(buf: &mut [u8]) -> Input
 fn line_of(file: &[u8], out: &mut [u8; 40]) -> usize
     ensures { λ r. ⌜ (r ≡ length (line (judge (now (file .entry))))) × (now (out .exit) ≡ line (judge (now (file .entry))) ++ drop (length (line (judge (now (file .entry))))) (now (out .entry))) × (r ≤ length (now (out .exit))) ⌝ }
 {
-    let mut sets = [0u64; 3];
-    let mut ends = [0u8; 128];
-    let mut rows = [0u8; 8];
-    let mut reach = [0u64; 8];
-    let mut paths = [0u8; 1408];
-    let mut spans = [0u8; 512];
-    let mut aims = [0u64; 512];
-    let mut numbers = [0u32; 6];
+    let mut sets = [0u64; SETS];
+    let mut ends = [0u8; ENDS];
+    let mut rows = [0u8; ROWS];
+    let mut reach = [0u64; ROWS];
+    let mut paths = [0u8; PATH_BYTES];
+    let mut spans = [0u8; CELLS];
+    let mut aims = [0u64; CELLS];
+    let mut numbers = [0u32; NUMBERS];
     let verdict = load(
         file,
         &mut sets,

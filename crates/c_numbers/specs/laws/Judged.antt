@@ -12,17 +12,17 @@ use borrow.Author.Tests.{ltb-true, ltb-false}
 use Rattle.lists.specs.Cells.{padded}
 use Rattle.lists.specs.laws.Bools.{none-some, when-some}
 use Rattle.lists.specs.laws.Search.{least-first}
-use Rattle.plan_rules.specs.declared.Verdict.{Verdict}
-use Rattle.plan_rules.specs.declared.Verdict.the-variants.{Accepted, Faulty, Overrun, Clash}
-use Rattle.plan_rules.specs.Plan.{Timing, Entry, Plan, blank}
-use Rattle.plan_rules.specs.Meaning.{isAtWork}
-use Rattle.plan_rules.specs.Verdict.{number, place}
-use Rattle.plan_rules.specs.Judge.{Reading, plan, fault, readFile, overrunAt, overrunOf, overrun, clashOn, clashWith, clashOf, clashIn, clash, counts, judge}
-use Rattle.plan_rules.specs.laws.Faults.{read-fault}
-use Rattle.plan_rules.specs.laws.Whole.{Clean, clean-counts}
-use Rattle.plan_rules.specs.laws.Accepted.{clean-good}
-use Rattle.plan_rules.specs.laws.Size.{most-devices, most-links, most-entries}
-use Rattle.plan_rules.specs.laws.Verdicts.{too-long, field-faulty, without-timing, with-overrun, with-clash}
+use Rattle.rules_plan.specs.declared.Verdict.{Verdict}
+use Rattle.rules_plan.specs.declared.Verdict.the-variants.{Accepted, Faulty, Overrun, Clash}
+use Rattle.rules_plan.specs.Plan.{Timing, Entry, Plan, blank}
+use Rattle.rules_plan.specs.Meaning.{isAtWork}
+use Rattle.rules_plan.specs.Verdict.{number, place}
+use Rattle.rules_plan.specs.Judge.{Reading, plan, fault, readFile, overrunAt, overrunOf, overrun, clashOn, clashWith, clashOf, clashIn, clash, counts, judge}
+use Rattle.rules_plan.specs.laws.Faults.{read-fault}
+use Rattle.rules_plan.specs.laws.Whole.{Clean, clean-counts}
+use Rattle.rules_plan.specs.laws.Accepted.{clean-good}
+use Rattle.rules_plan.specs.laws.Size.{most-devices, most-links, most-entries}
+use Rattle.rules_plan.specs.laws.Verdicts.{too-long, field-faulty, without-timing, with-overrun, with-clash}
 use Rattle.c_numbers.specs.Numbers.{verdictNumbers, verdictOf}
 use Rattle.c_numbers.specs.laws.Verdicts.{accepted, overran, clashed, faulty}
 

@@ -4,8 +4,8 @@ use mathlib.Core.Logic.{_≢_}
 use mathlib.Core.List.{List}
 use Prim.Native.Nat.{ℕ, _%_}
 use borrow.Author.Tests.{ne-eqb}
-use Rattle.plan_rules.specs.declared.Verdict.the-variants.{Accepted, Faulty, Overrun, Clash}
-use Rattle.plan_rules.specs.Plan.{nth}
+use Rattle.rules_plan.specs.declared.Verdict.the-variants.{Accepted, Faulty, Overrun, Clash}
+use Rattle.rules_plan.specs.Plan.{nth}
 use Rattle.c_numbers.specs.Numbers.{verdictOf}
 
 module _ (ns : List ℕ) where

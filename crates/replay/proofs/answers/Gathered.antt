@@ -7,8 +7,8 @@ use native.Mathlib.Omega.{arith}
 use lib.ListN.{length, take, drop}
 use lib.Seq.{take-at}
 use Rattle.lists.specs.Puts.{Puts}
-use Rattle.replies.specs.Texts.{Prints}
-use Rattle.desk.specs.Replay.{Answers}
+use Rattle.script_answers.specs.Texts.{Prints}
+use Rattle.script_desk.specs.Replay.{Answers}
 use Rattle.replay.specs.declared.answers.Desk.{Desk}
 use Rattle.replay.specs.Gather.{Flushed, Roomy}
 

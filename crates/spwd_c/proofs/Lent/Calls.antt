@@ -20,7 +20,7 @@ use denote.Steps.{only, peeks, said}
 use denote.Triple.Entry.{Args, Res, alive, onEntry}
 use denote.Triple.Spec.{Spec, Back, tripleOf, Meets}
 use denote.Triple.Clauses.{Ended, Clauses, Lasts, atExit, lasts, ensured, closing}
-use Rattle.box_rules.specs.declared.Watchdog.{Watchdog}
+use Rattle.rules_box.specs.declared.Watchdog.{Watchdog}
 use Rattle.spwd_c.proofs.Lent.Five.{five, settled}
 
 module _ {M : Type 1} (𝓤 : URA M) (H : Heap 𝓤) (A : Atoms 𝓤) (W : Given 𝓤 H A) (S : Ended) (c : Clauses 𝓤 S) (y : tripleOf 𝓤 H A (S .signature) (closing 𝓤 H A S c) .Ghost) where

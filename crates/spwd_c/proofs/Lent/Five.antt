@@ -17,9 +17,9 @@ use denote.Ref.{RefT, MutRef, ShrRef, ptr-vals}
 use denote.Steps.{opens, closes, looks, shuts, owned, peeks}
 use denote.Struct.Steps.{spelt}
 use denote.Struct.Laws as Laws
-use Rattle.box_rules.specs.declared.Watchdog.{Watchdog}
-use Rattle.box_rules.proofs.Watchdog as watchdog
-use Rattle.box_rules.proofs.Watchdog.Laws as watchdog-laws
+use Rattle.rules_box.specs.declared.Watchdog.{Watchdog}
+use Rattle.rules_box.proofs.Watchdog as watchdog
+use Rattle.rules_box.proofs.Watchdog.Laws as watchdog-laws
 
 abbrev pub five : RattleType
 five = watchdog.the-row

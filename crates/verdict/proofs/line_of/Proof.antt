@@ -5,8 +5,8 @@ use Prim.Native.Nat.{ℕ, _≤_}
 use native.Mathlib.Omega.{arith}
 use lib.ListN.{length, length-append, drop}
 use borrow.Author.Needs.{needs}
-use Rattle.plan_rules.specs.declared.Verdict.{Verdict}
-use Rattle.plan_rules.specs.Print.{line}
+use Rattle.rules_plan.specs.declared.Verdict.{Verdict}
+use Rattle.rules_plan.specs.Print.{line}
 use Rattle.verdict.proofs.line_of.Statement.{statement}
 use Rattle.verdict.proofs.line_of.Tie as tie
 

@@ -1,6 +1,6 @@
 -- `c_numbers::copied::sized_numbers` meets its contract. Assumes nothing.
 use mathlib.Core.Path.{sym, ap}
-use Rattle.plan_rules.specs.Copy.{sized}
+use Rattle.rules_plan.specs.Copy.{sized}
 use Rattle.c_numbers.specs.Numbers.{sizedNumbers}
 use borrow.Author.Needs.{needs}
 use Rattle.c_numbers.proofs.copied.sized_numbers.Statement.{statement}

@@ -1,7 +1,7 @@
 -- `c_numbers::verdict::numbers_of` meets its contract. Assumes nothing.
 use mathlib.Core.Path.{sym, ap}
 use Rattle.lists.specs.Cells.{padded}
-use Rattle.plan_rules.specs.Verdict.{number, place}
+use Rattle.rules_plan.specs.Verdict.{number, place}
 use Rattle.c_numbers.specs.Numbers.{verdictNumbers}
 use borrow.Author.Needs.{needs}
 use Rattle.c_numbers.proofs.verdict.numbers_of.Statement.{statement}

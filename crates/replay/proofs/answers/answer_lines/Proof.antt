@@ -4,7 +4,7 @@ use Prim.Native.Nat.{_-_, _≤_}
 use native.Mathlib.Omega.{arith}
 use lib.ListN.{length}
 use borrow.Author.Needs.{needs}
-use Rattle.calls.specs.Calls.{memory}
+use Rattle.box_calls.specs.Calls.{memory}
 use Rattle.replay.specs.Gather.{Lines, none, more}
 use Rattle.replay.specs.Lines.{LineEnds}
 use Rattle.replay.proofs.answers.answer_lines.Statement.{statement}

@@ -31,9 +31,9 @@ use denote.Triple.Spec.{Meets, tripleOf}
 use denote.Triple.Table.{entered, cited}
 use denote.Triple.Clauses.{Clauses, Lasts}
 use Prim.Native.Nat.{ℕ}
-use Rattle.box_rules.specs.declared.Watchdog.{Watchdog}
-use Rattle.box_rules.proofs.Watchdog as watchdog
-use Rattle.box_rules.proofs.Watchdog.Laws as watchdog-laws
+use Rattle.rules_box.specs.declared.Watchdog.{Watchdog}
+use Rattle.rules_box.proofs.Watchdog as watchdog
+use Rattle.rules_box.proofs.Watchdog.Laws as watchdog-laws
 use Rattle.spwd_c.proofs.Lent.Five as five-numbers
 use Rattle.spwd_c.proofs.Lent.Parts.{beside, but, lfts-but, shares-but, tokens, parts, endings, puts-in, keeps, asks-with}
 use Rattle.spwd_c.proofs.Lent.Locals.{begins, ends, held}

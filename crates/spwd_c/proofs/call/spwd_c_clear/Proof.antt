@@ -29,17 +29,17 @@ use denote.Triple.Entry.{Args, Vals, onEntry}
 use denote.Triple.Spec.{Meets, tripleOf}
 use denote.Triple.Table.{entered, cited}
 use denote.Triple.Clauses.{Clauses, Lasts}
-use Rattle.box_rules.specs.declared.Watchdog.{Watchdog}
-use Rattle.box_rules.proofs.Watchdog as watchdog
-use Rattle.box_rules.proofs.Watchdog.Laws as watchdog-laws
+use Rattle.rules_box.specs.declared.Watchdog.{Watchdog}
+use Rattle.rules_box.proofs.Watchdog as watchdog
+use Rattle.rules_box.proofs.Watchdog.Laws as watchdog-laws
 use Rattle.spwd_c.proofs.Lent.Five as five-numbers
 use Rattle.spwd_c.proofs.Lent.Parts.{lfts-but, shares-but, args-but, vals-but, tokens, parts, endings, puts-in, keeps, asks}
 use Rattle.spwd_c.proofs.Lent.Locals.{begins, ends, held, lends}
 use Rattle.spwd_c.proofs.Lent.Five.{five, lent, five-fits, opens-five, closes-five}
 use Rattle.spwd_c.proofs.Lent.Calls.{answers, leaves, walked}
-use Rattle.calls.proofs.clear.clear as core
-use Rattle.calls.proofs.clear.clear.Symbol as core-def
-use Rattle.calls.proofs.clear.clear.Met as core-thm
+use Rattle.box_calls.proofs.clear.clear as core
+use Rattle.box_calls.proofs.clear.clear.Symbol as core-def
+use Rattle.box_calls.proofs.clear.clear.Met as core-thm
 use Rattle.spwd_c.proofs.call.spwd_c_clear as f
 use Rattle.spwd_c.proofs.call.spwd_c_clear.Key as key
 use Rattle.spwd_c.proofs.call.spwd_c_clear.Statement as stated
@@ -136,4 +136,4 @@ spwd-c-clear-spec 𝓤 H 𝓜 𝓖 𝓡 =
     entered 𝓤 H (tripleOf 𝓤 H (𝓖 .A) f.signature (f.spec 𝓤 H (𝓖 .A) (𝓜 .mem) (𝓡 .run)))
     (tables 𝓤 H 𝓜 𝓡 code.env .C) (tables 𝓤 H 𝓜 𝓡 code.env .Λ) key.name code.function (code.unfolded 𝓤 H 𝓜 𝓡)
     (meets 𝓤 H (𝓖 .A) (givenOf 𝓤 H 𝓜 𝓖) (𝓜 .mem) (𝓡 .run) (tablesOf 𝓤 H 𝓜 (tables 𝓤 H 𝓜 𝓡 code.env))
-    (cited 𝓤 H (Core 𝓤 H (𝓖 .A) (givenOf 𝓤 H 𝓜 𝓖) (𝓜 .mem) (𝓡 .run)) 𝓜 𝓡 code.env core-def.name core-def.routine code.calls-calls·clear·clear (core-thm.met 𝓤 H 𝓜 𝓖 𝓡)))
+    (cited 𝓤 H (Core 𝓤 H (𝓖 .A) (givenOf 𝓤 H 𝓜 𝓖) (𝓜 .mem) (𝓡 .run)) 𝓜 𝓡 code.env core-def.name core-def.routine code.calls-box-calls·clear·clear (core-thm.met 𝓤 H 𝓜 𝓖 𝓡)))

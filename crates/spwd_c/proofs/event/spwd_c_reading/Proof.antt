@@ -34,9 +34,9 @@ use Prim.Native.Nat.{_<_, _^_}
 use native.Mathlib.Omega.{arith}
 use mathlib.Core.Bool.{Bool, true, false, not}
 use lib.Dec.{T}
-use Rattle.box_rules.specs.declared.Watchdog.{Watchdog}
-use Rattle.box_rules.proofs.Watchdog as watchdog
-use Rattle.box_rules.proofs.Watchdog.Laws as watchdog-laws
+use Rattle.rules_box.specs.declared.Watchdog.{Watchdog}
+use Rattle.rules_box.proofs.Watchdog as watchdog
+use Rattle.rules_box.proofs.Watchdog.Laws as watchdog-laws
 use Rattle.spwd_c.specs.Exports.{reportedWhere}
 use Rattle.spwd_c.proofs.Lent.Five as five-numbers
 use Rattle.spwd_c.proofs.Lent.Parts.{beside, but, lfts-but, shares-but, tokens, parts, endings, puts-in, replaces, keeps, asks-with}

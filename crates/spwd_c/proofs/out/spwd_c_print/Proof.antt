@@ -4,8 +4,8 @@ use mathlib.Core.List.{List, _++_}
 use Prim.Native.Nat.{ℕ}
 use lib.ListN.{length, drop}
 use borrow.Author.Needs.{needs}
-use Rattle.plan_rules.specs.declared.Verdict.{Verdict}
-use Rattle.plan_rules.specs.Print.{line}
+use Rattle.rules_plan.specs.declared.Verdict.{Verdict}
+use Rattle.rules_plan.specs.Print.{line}
 use Rattle.c_numbers.specs.Numbers.{verdictOf}
 use Rattle.spwd_c.specs.Exports.{Prints}
 use Rattle.c_numbers.specs.laws.Judged.{judged}

@@ -1,0 +1,30 @@
+-- `calls::load::load` meets its contract. Assumes nothing.
+use borrow.Author.Needs.{needs}
+use Rattle.box_calls.specs.laws.Boxes.{holds-loaded, load-watchdog}
+use Rattle.box_calls.proofs.load.load.Statement.{statement}
+use Rattle.box_calls.proofs.load.load.Tie as tie
+
+load-requires : tie.Need-load-requires
+load-requires c κs = search needs
+
+clear-run-requires : tie.Need-clear-run-requires
+clear-run-requires c κs = search needs
+
+least-interval-requires : tie.Need-least-interval-requires
+least-interval-requires c κs = search needs
+
+greatest-interval-requires : tie.Need-greatest-interval-requires
+greatest-interval-requires c κs = search needs
+
+returns : tie.Need-returns
+returns c = ?
+
+pub load-spec : {M : Type 1} → statement M
+load-spec =
+    tie.close
+    (tie.spec
+    load-requires
+    clear-run-requires
+    least-interval-requires
+    greatest-interval-requires
+    returns)

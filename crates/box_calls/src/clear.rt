@@ -1,0 +1,35 @@
+// "Clear. The state is then the one before any load, every number of it."
+ghost use Rattle.box_calls.specs.Calls.{memory, ClearLeaves};
+use crate::cleared::clear_run;
+use crate::cleared::cleared_watchdog;
+use memory_plan::layout::Aims;
+use memory_plan::layout::Ends;
+use memory_plan::layout::Numbers;
+use memory_plan::layout::Paths;
+use memory_plan::layout::Reach;
+use memory_plan::layout::Rows;
+use memory_plan::layout::Sets;
+use memory_plan::layout::Spans;
+use memory_run::layout::Last;
+use memory_run::layout::Run;
+use rules_box::Watchdog;
+
+// The box of a clear, whatever memory held before; the five numbers as the answer.
+pub fn clear(
+    sets: &mut Sets,
+    ends: &mut Ends,
+    rows: &mut Rows,
+    reach: &mut Reach,
+    paths: &mut Paths,
+    spans: &mut Spans,
+    aims: &mut Aims,
+    numbers: &mut Numbers,
+    run: &mut Run,
+    last: &mut Last,
+) -> Watchdog
+    ensures { λ r. ⌜ ClearLeaves (memory (now (sets .exit)) (now (ends .exit)) (now (rows .exit)) (now (reach .exit)) (now (paths .exit)) (now (spans .exit)) (now (aims .exit)) (now (numbers .exit)) (now (run .exit)) (now (last .exit))) r ⌝ }
+{
+    load_plan::load::clear(sets, ends, rows, reach, paths, spans, aims, numbers);
+    clear_run(run, last);
+    cleared_watchdog()
+}

@@ -1,0 +1,29 @@
+-- `reread::holds` meets its contract: memory tells plans apart. Assumes nothing.
+use borrow.Author.Needs.{needs}
+use Rattle.lists.specs.laws.Answers.{it-is-not}
+use Rattle.box_holds.proofs.Rereads.{refused, reread}
+use Rattle.box_holds.proofs.holds.Statement.{statement}
+use Rattle.box_holds.proofs.holds.Tie as tie
+
+load-requires : tie.Need-load-requires
+load-requires c κs = search needs
+
+element-copy-out-if1 : tie.Need-element-copy-out-if1
+element-copy-out-if1 c = search needs
+
+returns : tie.Need-returns
+returns c =
+    let m = c .before .before .load .ensures .1 in
+    (λ o held. it-is-not (λ q. refused _ m (c .if1 .taken) (q .0)), m)
+
+same-plan-requires : tie.Need-same-plan-requires
+same-plan-requires c κs = search needs
+
+returns-2 : tie.Need-returns-2
+returns-2 c =
+    let s = c .before .before .before .before .before .before .before .before .before in
+    let m = s .before .before .load .ensures .1 in
+    (reread _ m (c .same-plan .ensures) (s .if1 .left), m)
+
+pub holds-spec : {M : Type 1} → statement M
+holds-spec = tie.close (tie.spec load-requires element-copy-out-if1 returns same-plan-requires returns-2)

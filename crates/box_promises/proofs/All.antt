@@ -1,0 +1,29 @@
+-- All promises, from those of the plan rules and of the box rules.
+use Rattle.rules_plan.specs.Promises as plan
+use Rattle.rules_box.specs.Promises as box
+use Rattle.box_promises.specs.Promises.{Promises}
+use Rattle.box_promises.proofs.Held.{holds-the-box, events-of-the-rules}
+use Rattle.box_promises.proofs.Nothing.{clear-leaves-nothing, refused-load, refused-event}
+use Rattle.box_promises.proofs.Verdicts.{verdicts-of-the-rules, same-plan-same-memory}
+use Rattle.box_promises.proofs.Says.{words-of-the-box}
+use Rattle.box_promises.proofs.Links.{links-never-shared}
+use Rattle.box_promises.proofs.InTime.{requests-start-in-time}
+use Rattle.box_promises.proofs.Entries.{starts-only-at-entries, once-per-visit}
+use Rattle.box_promises.proofs.Lives.{live-by-record-only}
+
+pub promised : plan.Promises → box.Promises → Promises
+promised p b = let ok = p .sound in record {
+  holds = holds-the-box ok;
+  words = words-of-the-box ok;
+  clear = clear-leaves-nothing;
+  refused-load = refused-load (b .refused-load);
+  refused-event = refused-event ok;
+  verdicts = verdicts-of-the-rules (p .words) (p .exactly);
+  same = same-plan-same-memory (p .same);
+  events = events-of-the-rules ok;
+  links = links-never-shared ok (b .links);
+  in-time = requests-start-in-time ok (b .in-time) (b .this-one) (b .joins);
+  entries = starts-only-at-entries ok (p .permits) (b .entries);
+  once = once-per-visit ok (b .once);
+  live = live-by-record-only ok (b .live);
+}

@@ -1,2 +1,0 @@
-pub mod Sides
-pub mod laws

@@ -1,0 +1,63 @@
+-- `tags::length_allowed` meets its contract: each arm has the bounds of the row with its number. Assumes nothing.
+use mathlib.Core.Path.{refl, _∙_}
+use native.Mathlib.Omega.{arith}
+use borrow.Author.Needs.{needs}
+use Rattle.lists.specs.Search.{find}
+use Rattle.rules_plan.specs.Fields.{tags, tagOf}
+use Rattle.file_field.specs.laws.Tags.{allowed-by, none-allowed}
+use Rattle.file_field.proofs.tags.length_allowed.Statement.{statement}
+use Rattle.file_field.proofs.tags.length_allowed.Tie as tie
+
+between-requires : tie.Need-between-requires
+between-requires c κs = search needs
+
+between-requires-2 : tie.Need-between-requires-2
+between-requires-2 c κs = search needs
+
+between-requires-3 : tie.Need-between-requires-3
+between-requires-3 c κs = search needs
+
+between-requires-4 : tie.Need-between-requires-4
+between-requires-4 c κs = search needs
+
+between-requires-5 : tie.Need-between-requires-5
+between-requires-5 c κs = search needs
+
+returns : tie.Need-returns
+unfolding find tags tagOf
+returns c = c .between .ensures ∙ allowed-by (c .before .before .args .size) (c .before .match .keys1) refl
+
+returns-2 : tie.Need-returns-2
+unfolding find tags tagOf
+returns-2 c = c .between2 .ensures ∙ allowed-by (c .before .before .args .size) (c .before .match .keys2) refl
+
+returns-3 : tie.Need-returns-3
+unfolding find tags tagOf
+returns-3 c = c .between3 .ensures ∙ allowed-by (c .before .before .args .size) (c .before .match .keys3) refl
+
+returns-4 : tie.Need-returns-4
+unfolding find tags tagOf
+returns-4 c = c .between4 .ensures ∙ allowed-by (c .before .before .args .size) (c .before .match .keys4) refl
+
+returns-5 : tie.Need-returns-5
+unfolding find tags tagOf
+returns-5 c = c .between5 .ensures ∙ allowed-by (c .before .before .args .size) (c .before .match .keys5) refl
+
+returns-6 : tie.Need-returns-6
+returns-6 c = none-allowed (c .before .args .tag) (c .before .args .size) (omega arith)
+
+pub length-allowed-spec : {M : Type 1} → statement M
+length-allowed-spec =
+    tie.close
+    (tie.spec
+    between-requires
+    between-requires-2
+    between-requires-3
+    between-requires-4
+    between-requires-5
+    returns
+    returns-2
+    returns-3
+    returns-4
+    returns-5
+    returns-6)

@@ -1,8 +1,0 @@
--- What the functions on an initiator's line do to its side beside a request.
-use Prim.Native.Nat.{ℕ}
-use Rattle.lists.specs.Place.{without}
-use Rattle.box_rules.specs.State.{Side, withLine}
-
--- the side once the request at place k has left the line
-unfoldable pub leaves : ℕ → Side → Side
-leaves k s = withLine (without k (s .line)) s

@@ -1,3 +1,0 @@
-// Run memory, one initiator's row at a time.
-pub mod row;
-pub mod word;

@@ -1,0 +1,132 @@
+-- One item taken into memory: which arrays it leaves alone, and so that memory holds the plan with it.
+use mathlib.Core.Path.{_≡_, refl, sym, _∙_}
+use mathlib.Core.List.{List, []}
+use mathlib.Core.Option.{Option, none, some}
+use mathlib.Core.Bool.{Bool, true, false, cond}
+use Prim.Native.Nat.{ℕ, _/_, _%_, _≤_}
+use lib.Dec.{eqb}
+use Rattle.lists.specs.Search.{find}
+use Rattle.lists.specs.Place.{atPlace}
+use Rattle.lists.specs.Cells.{cells}
+use Rattle.lists.specs.laws.Bools.{some-some}
+use Rattle.lists.specs.laws.Cells.{cells-same}
+use Rattle.rules_plan.specs.Plan.{Device, Link, Route, Entry, Timing, Plan, Item, device, link, path, entry, timing, grow}
+use Rattle.rules_plan.specs.Fields.{Tag, tagOf, lengthAllowed, itemOf}
+use Rattle.rules_plan.specs.Meaning.{hasKind, isLink, isInitiator, initiators, hasPath, entryAt}
+use Rattle.rules_plan.specs.laws.Lengths.{allowed}
+use Rattle.memory_plan.specs.Memory.{setsOf, endsOf, rowsOf, ofRow, reachOf, pathsInOrder, pathsOf, spanOf, spansOf, aimOf, aimsOf, numbersWith, HoldsSized}
+use Rattle.memory_plan.specs.Take.{itemFault, taken}
+use Rattle.load_fields.specs.Fields.{Takes}
+
+-- what a row of the table of tags says of a content: its item, and the bounds of its length
+module _ {n k : ℕ} {t : Tag} (is : n ≡ k) (row : tagOf k ≡ some t) where
+  pub reads-as : (c : List ℕ) (x : Item) → itemOf n c ≡ some x → x ≡ t .reads c
+  unfolding itemOf
+  reads-as c x h = some-some (sym (rw (is, itemOf, row) at h))
+
+  pub between : (size : ℕ) → lengthAllowed n size ≡ true → (t .shortest ≤ size) × (size ≤ t .longest)
+  between size h = allowed k size t row (rw is at h)
+
+-- while there are no entries, the arrays of entries are all 0
+module _ (p : Plan) (none-yet : p .entries ≡ []) where
+  no-cells : (f : Option Entry → ℕ) → f none ≡ 0 → cells 512 (λ (n : ℕ). ofRow p (n / 64) (λ (i : ℕ). f (entryAt (p .entries) i (n % 64)))) ≡ cells 512 (λ (n : ℕ). 0)
+  unfolding ofRow entryAt find initiators isInitiator
+  no-cells f z = cells-same 512 _ _ 0 (λ n l. rw none-yet (go (atPlace (n / 64) (initiators p))))
+    where
+      go : (o : Option ℕ) → _≡_ {A = ℕ} (elim o [ none ↦ 0 | some i ↦ f none ]) 0
+      go none = refl
+      go (some i) = z
+
+  pub no-spans : spansOf p ≡ cells 512 (λ (n : ℕ). 0)
+  unfolding spansOf spanOf
+  no-spans = no-cells spanOf refl
+
+  pub no-aims : aimsOf p ≡ cells 512 (λ (n : ℕ). 0)
+  unfolding aimsOf aimOf
+  no-aims = no-cells aimOf refl
+
+-- an array that does not change when the item is added does not change when it is taken
+left-alone : (f : Plan → List ℕ) (p : Plan) (x : Item) → f (grow p x) ≡ f p → f p ≡ f (taken p x)
+unfolding taken
+left-alone f p x h = go (eqb (itemFault p x) 0)
+  where
+    go : (b : Bool) → f p ≡ f (cond b (grow p x) p)
+    go true = sym h
+    go false = refl
+
+-- s e r c a n m w: the eight arrays, in their order
+module _ {size : ℕ} {p : Plan} {s e r c a n m w : List ℕ} (old : HoldsSized size p s e r c a n m w) where
+  -- what no item of its kind changes
+  sets-kept : (x : Item) → setsOf (grow p x) ≡ setsOf p → s ≡ setsOf (taken p x)
+  sets-kept x h = old .sets ∙ left-alone setsOf p x h
+
+  ends-kept : (x : Item) → endsOf (grow p x) ≡ endsOf p → e ≡ endsOf (taken p x)
+  ends-kept x h = old .ends ∙ left-alone endsOf p x h
+
+  rows-kept : (x : Item) → rowsOf (grow p x) ≡ rowsOf p → r ≡ rowsOf (taken p x)
+  rows-kept x h = old .rows ∙ left-alone rowsOf p x h
+
+  reach-kept : (x : Item) → reachOf (grow p x) ≡ reachOf p → c ≡ reachOf (taken p x)
+  reach-kept x h = old .reach ∙ left-alone reachOf p x h
+
+  paths-kept : (x : Item) → pathsOf (grow p x) ≡ pathsOf p → a ≡ pathsOf (taken p x)
+  paths-kept x h = old .paths ∙ left-alone pathsOf p x h
+
+  spans-kept : (x : Item) → spansOf (grow p x) ≡ spansOf p → n ≡ spansOf (taken p x)
+  spans-kept x h = old .spans ∙ left-alone spansOf p x h
+
+  aims-kept : (x : Item) → aimsOf (grow p x) ≡ aimsOf p → m ≡ aimsOf (taken p x)
+  aims-kept x h = old .aims ∙ left-alone aimsOf p x h
+
+  numbers-kept : (x : Item) → numbersWith size (grow p x) ≡ numbersWith size p → w ≡ numbersWith size (taken p x)
+  numbers-kept x h = old .numbers ∙ left-alone (numbersWith size) p x h
+
+  pub device-taken : (d : Device) {v : ℕ} {s′ : List ℕ} → (v ≡ itemFault p (device d)) × (s′ ≡ setsOf (taken p (device d))) → Takes size p (device d) v s′ e r c a n m w
+  unfolding grow endsOf rowsOf reachOf ofRow hasPath pathsInOrder pathsOf spansOf aimsOf numbersWith isInitiator initiators
+  device-taken d new =
+      let x = device d in
+      record {
+        answer = new .0;
+        memory = record { sets = new .1; ends = ends-kept x refl; rows = rows-kept x refl; reach = reach-kept x refl; paths = paths-kept x refl; spans = spans-kept x refl; aims = aims-kept x refl; numbers = numbers-kept x refl };
+      }
+
+  pub link-taken : (l : Link) {v : ℕ} {s′ e′ : List ℕ} → (v ≡ itemFault p (link l)) × (s′ ≡ setsOf (taken p (link l))) × (e′ ≡ endsOf (taken p (link l))) → Takes size p (link l) v s′ e′ r c a n m w
+  unfolding grow rowsOf reachOf ofRow hasPath pathsInOrder pathsOf spansOf aimsOf numbersWith isInitiator initiators
+  link-taken l new =
+      let x = link l in
+      record {
+        answer = new .0;
+        memory = record { sets = new .1; ends = new .2; rows = rows-kept x refl; reach = reach-kept x refl; paths = paths-kept x refl; spans = spans-kept x refl; aims = aims-kept x refl; numbers = numbers-kept x refl };
+      }
+
+  pub path-taken : (y : Route) {v : ℕ} {r′ c′ a′ w′ : List ℕ} → p .entries ≡ [] → (v ≡ itemFault p (path y)) × (r′ ≡ rowsOf (taken p (path y))) × (c′ ≡ reachOf (taken p (path y))) × (a′ ≡ pathsOf (taken p (path y))) × (w′ ≡ numbersWith size (taken p (path y))) → Takes size p (path y) v s e r′ c′ a′ n m w′
+  unfolding grow setsOf hasKind isLink endsOf
+  path-taken y z new =
+      let x = path y in
+      let q = grow p x in
+      record {
+        answer = new .0;
+        memory = record { sets = sets-kept x refl; ends = ends-kept x refl; rows = new .1; reach = new .2; paths = new .3; spans = spans-kept x (no-spans q z ∙ sym (no-spans p z)); aims = aims-kept x (no-aims q z ∙ sym (no-aims p z)); numbers = new .4 };
+      }
+
+  pub entry-taken : (y : Entry) {v : ℕ} {n′ m′ w′ : List ℕ} → (v ≡ itemFault p (entry y)) × (n′ ≡ spansOf (taken p (entry y))) × (m′ ≡ aimsOf (taken p (entry y))) × (w′ ≡ numbersWith size (taken p (entry y))) → Takes size p (entry y) v s e r c a n′ m′ w′
+  unfolding grow setsOf hasKind isLink endsOf rowsOf reachOf ofRow hasPath pathsInOrder pathsOf isInitiator initiators
+  entry-taken y new =
+      let x = entry y in
+      record {
+        answer = new .0;
+        memory = record { sets = sets-kept x refl; ends = ends-kept x refl; rows = rows-kept x refl; reach = reach-kept x refl; paths = paths-kept x refl; spans = new .1; aims = new .2; numbers = new .3 };
+      }
+
+  pub timing-taken : (t : Timing) {v : ℕ} {w′ : List ℕ} → (v ≡ itemFault p (timing t)) × (w′ ≡ numbersWith size (taken p (timing t))) → Takes size p (timing t) v s e r c a n m w′
+  unfolding grow setsOf hasKind isLink endsOf rowsOf reachOf ofRow hasPath pathsInOrder pathsOf spansOf aimsOf isInitiator initiators
+  timing-taken t new =
+      let x = timing t in
+      record {
+        answer = new .0;
+        memory = record { sets = sets-kept x refl; ends = ends-kept x refl; rows = rows-kept x refl; reach = reach-kept x refl; paths = paths-kept x refl; spans = spans-kept x refl; aims = aims-kept x refl; numbers = new .1 };
+      }
+
+-- the same of the item under another name
+pub as-item : {size : ℕ} {p : Plan} {x y : Item} {v : ℕ} {s e r c a n m w : List ℕ} → x ≡ y → Takes size p y v s e r c a n m w → Takes size p x v s e r c a n m w
+as-item h t = rw h t

@@ -1,0 +1,134 @@
+// The fields of a file, front to back, up to the first fault: each is judged and then kept in plan memory.
+ghost use mathlib.Core.Path.{_≡_};
+ghost use mathlib.Core.Bool.{true};
+ghost use mathlib.Core.Option.{some};
+ghost use Prim.Native.Nat.{ℕ, _≤_};
+ghost use lib.ListN.{length};
+ghost use Rattle.rules_plan.specs.Plan.{Plan, Item, blank};
+ghost use Rattle.rules_plan.specs.Fields.{lengthAllowed, itemOf};
+ghost use Rattle.rules_plan.specs.laws.Fair.{Fair};
+ghost use Rattle.memory_plan.specs.Memory.{HoldsSized, Holds};
+ghost use Rattle.load_fields.specs.Fields.{Awaits, Takes, ReadIn};
+use file_field::field::Head;
+use file_field::field::four_at;
+use file_field::field::head_at;
+use file_field::field::part;
+use load_entries::entry;
+use load_items::devices::device;
+use load_items::intervals::timing;
+use load_items::links::link;
+use load_paths::path;
+use memory_plan::layout::Aims;
+use memory_plan::layout::Ends;
+use memory_plan::layout::Numbers;
+use memory_plan::layout::Paths;
+use memory_plan::layout::Reach;
+use memory_plan::layout::Rows;
+use memory_plan::layout::SIZE;
+use memory_plan::layout::Sets;
+use memory_plan::layout::Spans;
+
+// What came of reading a file: the number of the first fault, 0 for none, and the offset of its field.
+pub struct Read {
+    pub number: u8,
+    pub at: usize,
+}
+
+// One field's content, of an allowed length: its verdict 6 to 11, 0 for none, and then memory has its item.
+fn take_item(
+    tag: u8,
+    content: &[u8],
+    sets: &mut Sets,
+    ends: &mut Ends,
+    rows: &mut Rows,
+    reach: &mut Reach,
+    paths: &mut Paths,
+    spans: &mut Spans,
+    aims: &mut Aims,
+    numbers: &mut Numbers,
+) -> u8
+    requires { ⌜ lengthAllowed tag (length (now content)) ≡ true ⌝ }
+    ensures { λ r. ⌜ ((size : ℕ) (p : Plan) (x : Item) → Fair p → Awaits p tag → itemOf tag (now (content .entry)) ≡ some x →
+        HoldsSized size p (now (sets .entry)) (now (ends .entry)) (now (rows .entry)) (now (reach .entry)) (now (paths .entry)) (now (spans .entry)) (now (aims .entry)) (now (numbers .entry)) →
+        Takes size p x r (now (sets .exit)) (now (ends .exit)) (now (rows .exit)) (now (reach .exit)) (now (paths .exit)) (now (spans .exit)) (now (aims .exit)) (now (numbers .exit))) ⌝ }
+{
+    match tag {
+        1 => device(sets, content[0], content[1]),
+        2 => link(sets, ends, content[0], content[1], content[2]),
+        3 => path(
+            sets,
+            ends,
+            rows,
+            reach,
+            paths,
+            numbers,
+            content[0],
+            content[1],
+            &content[2..],
+        ),
+        4 => entry(
+            sets,
+            rows,
+            reach,
+            spans,
+            aims,
+            numbers,
+            content[0],
+            content[1],
+            content[2],
+            &content[3..],
+        ),
+        _ => timing(numbers, four_at(content, 0), four_at(content, 4)),
+    }
+}
+
+// Reads the whole file into memory that holds no plan.
+pub fn read_fields(
+    file: &[u8],
+    sets: &mut Sets,
+    ends: &mut Ends,
+    rows: &mut Rows,
+    reach: &mut Reach,
+    paths: &mut Paths,
+    spans: &mut Spans,
+    aims: &mut Aims,
+    numbers: &mut Numbers,
+) -> Read
+    requires { ⌜ length (now file) ≤ 16384 ⌝ }
+    requires { ⌜ Holds blank (now sets) (now ends) (now rows) (now reach) (now paths) (now spans) (now aims) (now numbers) ⌝ }
+    ensures { λ r. ⌜ ReadIn (now (file .entry)) (r .number) (r .at) (now (sets .exit)) (now (ends .exit)) (now (rows .exit)) (now (reach .exit)) (now (paths .exit)) (now (spans .exit)) (now (aims .exit)) (now (numbers .exit)) ⌝ }
+{
+    let mut at: usize = 0;
+    let mut before: u8 = 0;
+    while at < file.len() {
+        let head = head_at(file, at, before);
+        match head {
+            Head::Fault { number } => {
+                return Read { number, at };
+            }
+            Head::Field { tag, size } => {
+                let next = at + 3 + size as usize;
+                let content = part(file, at + 3, size as usize);
+                let fault = take_item(
+                    tag,
+                    content,
+                    sets,
+                    ends,
+                    rows,
+                    reach,
+                    paths,
+                    spans,
+                    aims,
+                    numbers,
+                );
+                if fault != 0 {
+                    return Read { number: fault, at };
+                }
+                before = tag;
+                at = next;
+                numbers[SIZE] = next as u32;
+            }
+        }
+    }
+    Read { number: 0, at }
+}

@@ -1,0 +1,129 @@
+// A path: judged after the plan so far, and put at its place in the order of writing out.
+ghost use mathlib.Core.Path.{_≡_};
+ghost use Prim.Native.Nat.{ℕ, _≤_, _<_};
+ghost use lib.ListN.{length};
+ghost use lib.Seq.{paste};
+ghost use Rattle.lists.specs.Insert.{moved};
+ghost use Rattle.rules_plan.specs.Plan.{nth, Plan};
+ghost use Rattle.rules_plan.specs.laws.Fair.{Fair};
+ghost use Rattle.memory_plan.specs.Memory.{setsOf, endsOf, rowsOf, reachOf, pathRow, pathsOf, numbersWith};
+ghost use Rattle.memory_plan.specs.Take.{itemFault, taken, pathItem};
+ghost use Rattle.load_paths.specs.Keep.{route, keptReach, keptPaths, keptNumbers};
+ghost use Rattle.memory_plan.specs.Rows.{rowAmong};
+ghost use Rattle.load_path_places.specs.Places.{withRow, IsPlace};
+use load_path_faults::path_fault;
+use load_path_places::own_row;
+use load_path_places::place_of;
+use memory_plan::layout::Ends;
+use memory_plan::layout::INITIATORS;
+use memory_plan::layout::Numbers;
+use memory_plan::layout::PATH;
+use memory_plan::layout::PATHS;
+use memory_plan::layout::Paths;
+use memory_plan::layout::Reach;
+use memory_plan::layout::Rows;
+use memory_plan::layout::Sets;
+use memory_plan::rows::row_among;
+
+// Moves the bytes from start to end eleven places on.
+fn make_room(paths: &mut Paths, start: usize, end: usize)
+    requires { ⌜ (start ≤ end) × (end ≤ 1397) ⌝ }
+    ensures { λ _. ⌜ (length (now (paths .entry)) ≡ 1408 → now (paths .exit) ≡ moved 11 start end (now (paths .entry))) ⌝ }
+{
+    let mut n = end;
+    while start < n {
+        n -= 1;
+        paths[n + 11] = paths[n];
+    }
+}
+
+// Puts the eleven bytes of a path at a place.
+fn put_path(paths: &mut Paths, at: usize, initiator: u8, target: u8, links: &[u8])
+    requires { ⌜ (at ≤ 1397) × (length (now links) ≤ 8) ⌝ }
+    ensures { λ _. ⌜ (length (now (paths .entry)) ≡ 1408 →
+        now (paths .exit) ≡ paste (now (paths .entry)) at (pathRow (route initiator target (now (links .entry)))) 11) ⌝ }
+{
+    let n = links.len();
+    paths[at] = initiator;
+    paths[at + 1] = target;
+    paths[at + 2] = n as u8;
+    let mut k = 0;
+    while k < 8 {
+        if k < n {
+            paths[at + 3 + k] = links[k];
+        } else {
+            paths[at + 3 + k] = 0;
+        }
+        k += 1;
+    }
+}
+
+// Keeps a path that has no fault.
+fn keep_path(
+    rows: &mut Rows,
+    reach: &mut Reach,
+    paths: &mut Paths,
+    numbers: &mut Numbers,
+    row: usize,
+    initiator: u8,
+    target: u8,
+    links: &[u8],
+)
+    requires { ⌜ (row ≡ rowAmong (now rows) (nth (now numbers) 2) initiator) × (row < 8) × (nth (now numbers) 3 < 128) × (length (now links) ≤ 8) ⌝ }
+    ensures { λ _. ⌜ (length (now (rows .entry)) ≡ 8 → length (now (reach .entry)) ≡ 8 → length (now (paths .entry)) ≡ 1408 →
+        (now (rows .exit) ≡ withRow (now (rows .entry)) (nth (now (numbers .entry)) 2) initiator initiator (now (rows .entry)))
+        × (now (reach .exit) ≡ keptReach (now (rows .entry)) (now (reach .entry)) (nth (now (numbers .entry)) 2) (route initiator target (now (links .entry))))
+        × ((m : ℕ) → IsPlace (now (paths .entry)) (nth (now (numbers .entry)) 3) initiator target m →
+        now (paths .exit) ≡ keptPaths (now (paths .entry)) (nth (now (numbers .entry)) 3) m (route initiator target (now (links .entry))))
+        × (now (numbers .exit) ≡ keptNumbers (now (rows .entry)) (now (numbers .entry)) initiator)) ⌝ }
+{
+    let row = own_row(rows, reach, numbers, row, initiator);
+    reach[row] = bitsets::add(reach[row], target);
+    let count = numbers[PATHS];
+    let n = count as usize;
+    let k = place_of(paths, n, initiator, target);
+    make_room(paths, k * PATH, n * PATH);
+    put_path(paths, k * PATH, initiator, target, links);
+    numbers[PATHS] = count + 1;
+}
+
+// The verdict on the path, 0 for none, and then rows, reach, paths and numbers have it. No entry is there yet, and a path has eight
+// links at most.
+pub fn path(
+    sets: &Sets,
+    ends: &Ends,
+    rows: &mut Rows,
+    reach: &mut Reach,
+    paths: &mut Paths,
+    numbers: &mut Numbers,
+    initiator: u8,
+    target: u8,
+    links: &[u8],
+) -> u8
+    requires { ⌜ length (now links) ≤ 8 ⌝ }
+    ensures { λ r. ⌜ ((size : ℕ) (p : Plan) → Fair p → now (sets .entry) ≡ setsOf p → now (ends .entry) ≡ endsOf p →
+        now (rows .entry) ≡ rowsOf p → now (reach .entry) ≡ reachOf p → now (paths .entry) ≡ pathsOf p → now (numbers .entry) ≡ numbersWith size p →
+        (r ≡ itemFault p (pathItem initiator target (now (links .entry))))
+        × (now (rows .exit) ≡ rowsOf (taken p (pathItem initiator target (now (links .entry)))))
+        × (now (reach .exit) ≡ reachOf (taken p (pathItem initiator target (now (links .entry)))))
+        × (now (paths .exit) ≡ pathsOf (taken p (pathItem initiator target (now (links .entry)))))
+        × (now (numbers .exit) ≡ numbersWith size (taken p (pathItem initiator target (now (links .entry)))))) ⌝ }
+{
+    let row = row_among(rows, numbers[INITIATORS], initiator);
+    let fault = path_fault(
+        sets,
+        ends,
+        rows,
+        reach,
+        numbers,
+        row,
+        initiator,
+        target,
+        links,
+    );
+    if fault != 0 {
+        return fault;
+    }
+    keep_path(rows, reach, paths, numbers, row, initiator, target, links);
+    0
+}

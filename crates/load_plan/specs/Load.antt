@@ -1,0 +1,18 @@
+-- What a load leaves: the plan of an accepted file, and of any other file none.
+use Prim.Native.Nat.{ℕ}
+use mathlib.Core.List.{List}
+use mathlib.Core.Option.{Option, none, some}
+use mathlib.Core.Bool.{cond}
+use lib.Dec.{eqb}
+use Rattle.rules_plan.specs.Plan.{Plan, blank}
+use Rattle.rules_plan.specs.Verdict.{number}
+use Rattle.rules_plan.specs.Judge.{judge}
+use Rattle.rules_plan.specs.Canon.{given, planOf}
+
+-- in the file's order
+unfoldable pub left : List ℕ → Plan
+left s = cond (eqb (number (judge s)) 0) (given s) blank
+
+-- in canonical order
+unfoldable pub kept : List ℕ → Option Plan
+kept s = cond (eqb (number (judge s)) 0) (some (planOf s)) none

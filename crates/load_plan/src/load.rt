@@ -1,0 +1,90 @@
+// Clearing plan memory, and loading a file into it.
+ghost use mathlib.Core.Path.{_≡_};
+ghost use Rattle.rules_plan.specs.Plan.{blank};
+ghost use Rattle.rules_plan.specs.Verdict.{number};
+ghost use Rattle.rules_plan.specs.Judge.{judge};
+ghost use Rattle.memory_plan.specs.Memory.{Holds};
+ghost use Rattle.load_plan.specs.Load.{left};
+use load_judge::judge::judge_into;
+use memory_plan::layout::Aims;
+use memory_plan::layout::CELLS;
+use memory_plan::layout::ENDS;
+use memory_plan::layout::Ends;
+use memory_plan::layout::NUMBERS;
+use memory_plan::layout::Numbers;
+use memory_plan::layout::PATH_BYTES;
+use memory_plan::layout::Paths;
+use memory_plan::layout::ROWS;
+use memory_plan::layout::Reach;
+use memory_plan::layout::Rows;
+use memory_plan::layout::SETS;
+use memory_plan::layout::Sets;
+use memory_plan::layout::Spans;
+use rules_plan::Verdict;
+
+// Memory that holds no plan, whatever it held before.
+pub fn clear(
+    sets: &mut Sets,
+    ends: &mut Ends,
+    rows: &mut Rows,
+    reach: &mut Reach,
+    paths: &mut Paths,
+    spans: &mut Spans,
+    aims: &mut Aims,
+    numbers: &mut Numbers,
+)
+    ensures { λ _. ⌜ Holds blank (now (sets .exit)) (now (ends .exit)) (now (rows .exit)) (now (reach .exit)) (now (paths .exit)) (now (spans .exit)) (now (aims .exit)) (now (numbers .exit)) ⌝ }
+{
+    *sets = [0u64; SETS];
+    *ends = [0u8; ENDS];
+    *rows = [0u8; ROWS];
+    *reach = [0u64; ROWS];
+    *paths = [0u8; PATH_BYTES];
+    *spans = [0u8; CELLS];
+    *aims = [0u64; CELLS];
+    *numbers = [0u32; NUMBERS];
+}
+
+// The number of a verdict.
+fn number_of(verdict: Verdict) -> u8
+    ensures { λ r. ⌜ r ≡ number verdict ⌝ }
+{
+    match verdict {
+        Verdict::Accepted {
+            devices,
+            links,
+            paths,
+            entries,
+        } => 0,
+        Verdict::Faulty { number, place } => number,
+        Verdict::Overrun { initiator, slot } => 13,
+        Verdict::Clash {
+            slot,
+            smaller,
+            greater,
+            link,
+        } => 14,
+    }
+}
+
+// Loads a file: the verdict on it. Memory holds the file's plan where the verdict is 0, and no plan otherwise, whatever it held before.
+pub fn load(
+    file: &[u8],
+    sets: &mut Sets,
+    ends: &mut Ends,
+    rows: &mut Rows,
+    reach: &mut Reach,
+    paths: &mut Paths,
+    spans: &mut Spans,
+    aims: &mut Aims,
+    numbers: &mut Numbers,
+) -> Verdict
+    ensures { λ r. ⌜ (r ≡ judge (now (file .entry))) × Holds (left (now (file .entry))) (now (sets .exit)) (now (ends .exit)) (now (rows .exit)) (now (reach .exit)) (now (paths .exit)) (now (spans .exit)) (now (aims .exit)) (now (numbers .exit)) ⌝ }
+{
+    clear(sets, ends, rows, reach, paths, spans, aims, numbers);
+    let verdict = judge_into(file, sets, ends, rows, reach, paths, spans, aims, numbers);
+    if number_of(verdict) != 0 {
+        clear(sets, ends, rows, reach, paths, spans, aims, numbers);
+    }
+    verdict
+}

@@ -1,0 +1,6 @@
+pub mod Memory
+pub mod Held
+pub mod Take
+pub mod laws
+pub mod Rows
+pub mod View

@@ -1,0 +1,96 @@
+-- Plan memory: eight arrays that the caller lends, each a function of the plan that it holds, unused cells 0.
+-- So equal plans have equal memory, and the memory of no plan, all 0, is that of the blank plan.
+use mathlib.Core.Path.{_≡_}
+use Prim.Native.Nat.{ℕ, _/_, _%_, min, max}
+use mathlib.Core.List.{List, [], _∷_, flatMap}
+use mathlib.Core.Option.{Option, none, some}
+use mathlib.Core.Bool.{cond}
+use lib.ListN.{length}
+use lib.Dec.{eqb}
+use Rattle.lists.specs.Search.{find, isIn}
+use Rattle.lists.specs.Place.{atPlace}
+use Rattle.lists.specs.Order.{inOrder}
+use Rattle.lists.specs.Cells.{cells, padded}
+use Rattle.bitsets.specs.Set.{packed}
+use Rattle.rules_plan.specs.Plan.{Link, Route, Entry, Plan}
+use Rattle.rules_plan.specs.Meaning.{hasKind, isLink, hasPath, initiators, entryAt, leastOf, greatestOf}
+use Rattle.rules_plan.specs.Canon.{written}
+
+-- `sets`: the nodes, the routers and the links that are given, each a word
+unfoldable pub setsOf : Plan → List ℕ
+setsOf p = packed (hasKind p 0) ∷ packed (hasKind p 1) ∷ packed (isLink p) ∷ []
+
+-- `ends`: of link n the smaller device at 2n and the greater at 2n + 1
+unfoldable pub endOf : ℕ → Option Link → ℕ
+endOf side none = 0
+endOf side (some l) = cond (eqb side 0) (min (l .one) (l .other)) (max (l .one) (l .other))
+
+unfoldable pub endsOf : Plan → List ℕ
+endsOf p = cells 128 (λ (n : ℕ). endOf (n % 2) (find (λ (l : Link). eqb (n / 2) (l .num)) (p .links)))
+
+-- `rows`: the initiators, rising. The place of an initiator here is its row in the arrays below.
+unfoldable pub rowsOf : Plan → List ℕ
+rowsOf p = padded 8 0 (initiators p)
+
+-- what f gives for the initiator of row r, 0 where there is none
+unfoldable pub ofRow : Plan → ℕ → (ℕ → ℕ) → ℕ
+ofRow p r f = elim (atPlace r (initiators p)) [ none ↦ 0 | some i ↦ f i ]
+
+-- `reach`: for each row the targets to which its initiator has a path
+unfoldable pub reachOf : Plan → List ℕ
+reachOf p = cells 8 (λ (r : ℕ). ofRow p r (λ (i : ℕ). packed (hasPath p i)))
+
+-- `paths`: eleven bytes for each path, in the order of writing out: initiator, target, number of links, eight places for the links
+unfoldable pub pathRow : Route → List ℕ
+pathRow x = x .start ∷ x .end ∷ length (x .links) ∷ padded 8 0 (x .links)
+
+unfoldable pub pathsInOrder : Plan → List Route
+pathsInOrder p = inOrder (λ (x : Route). x .start) (inOrder (λ (x : Route). x .end) (p .paths))
+
+unfoldable pub pathsOf : Plan → List ℕ
+pathsOf p = padded 1408 0 (flatMap pathRow (pathsInOrder p))
+
+-- `spans` and `aims`: at 64 × row + slot the span of the entry that stands there, 0 for none, and the set of its targets
+unfoldable pub spanOf : Option Entry → ℕ
+spanOf none = 0
+spanOf (some e) = e .span
+
+unfoldable pub spansOf : Plan → List ℕ
+spansOf p = cells 512 (λ (n : ℕ). ofRow p (n / 64) (λ (i : ℕ). spanOf (entryAt (p .entries) i (n % 64))))
+
+unfoldable pub aimOf : Option Entry → ℕ
+aimOf none = 0
+aimOf (some e) = packed (λ (t : ℕ). isIn t (e .targets))
+
+unfoldable pub aimsOf : Plan → List ℕ
+aimsOf p = cells 512 (λ (n : ℕ). ofRow p (n / 64) (λ (i : ℕ). aimOf (entryAt (p .entries) i (n % 64))))
+
+-- `numbers`: least and greatest interval, how many initiators, paths and entries there are, and the size of the plan written out.
+-- A plan that is accepted has a greatest interval of 1 at least: that it is not 0 says that there is a plan.
+unfoldable pub numbersWith : ℕ → Plan → List ℕ
+numbersWith size p =
+    leastOf (p .timings)
+    ∷ greatestOf (p .timings)
+    ∷ length (initiators p)
+    ∷ length (p .paths)
+    ∷ length (p .entries)
+    ∷ size
+    ∷ []
+
+-- the eight arrays hold plan p, with any size for that of the plan written out
+pub record HoldsSized (size : ℕ) (p : Plan) (sets′ ends′ rows′ reach′ paths′ spans′ aims′ numbers′ : List ℕ) : Type 0 where
+  pub sets : sets′ ≡ setsOf p
+  pub ends : ends′ ≡ endsOf p
+  pub rows : rows′ ≡ rowsOf p
+  pub reach : reach′ ≡ reachOf p
+  pub paths : paths′ ≡ pathsOf p
+  pub spans : spans′ ≡ spansOf p
+  pub aims : aims′ ≡ aimsOf p
+  pub numbers : numbers′ ≡ numbersWith size p
+
+-- with its own size
+abbrev pub numbersOf : Plan → List ℕ
+numbersOf p = numbersWith (length (written p)) p
+
+abbrev pub Holds : Plan → (sets′ ends′ rows′ reach′ paths′ spans′ aims′ numbers′ : List ℕ) → Type 0
+Holds p = HoldsSized (length (written p)) p

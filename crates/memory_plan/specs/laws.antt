@@ -1,0 +1,10 @@
+pub mod SameMemory
+pub mod InRows
+pub mod PathRows
+pub mod ToldPlan
+pub mod ToldEntries
+pub mod OneMemory
+pub mod BlankMemory
+pub mod Among
+pub mod Rows
+pub mod Entries

@@ -1,0 +1,124 @@
+-- What two plans with equal arrays have in common: devices, links, initiators, paths and intervals.
+use mathlib.Core.Path.{_≡_, refl, sym, ap, ap₂, _∙_}
+use mathlib.Core.List.{List, [], _∷_}
+use mathlib.Core.Option.{some}
+use mathlib.Core.Bool.{Bool, true, false}
+use Prim.Native.Nat.{ℕ, zero, suc, _+_, _*_, _/_, _%_, _<_, min, max}
+use native.Mathlib.Omega.{arith}
+use lib.ListN.{length}
+use lib.Dec.{eqb}
+use borrow.Author.Tests.{eqb-true, eq-eqb}
+use Rattle.lists.specs.Search.{find, repeats}
+use Rattle.lists.specs.Cells.{padded}
+use Rattle.lists.specs.laws.Bools.{both-true, true-both}
+use Rattle.lists.specs.laws.Search.{any-elim, any-intro, find-some, find-has}
+use Rattle.lists.specs.laws.Order.{one-key}
+use Rattle.lists.specs.laws.Found.{find-one}
+use Rattle.lists.specs.laws.Told.{cells-told, padded-told, even-length, parts-told}
+use Rattle.lists.specs.laws.OneOrder.{Among}
+use Rattle.bitsets.specs.Set.{member, packed}
+use Rattle.bitsets.specs.Packed.{member-packed-below}
+use Rattle.rules_plan.specs.Plan.{nth, Device, Link, Route, Timing, Plan, path}
+use Rattle.rules_plan.specs.Meaning.{hasKind, isLink, initiators, leastOf, greatestOf}
+use Rattle.rules_plan.specs.Judge.{outOfRange}
+use Rattle.rules_plan.specs.Canon.{smallFirst}
+use Rattle.rules_plan.specs.Good.{Good, Each, sameLinkNumber}
+use Rattle.rules_plan.specs.laws.InRange.{device-ranged, link-ranged}
+use Rattle.memory_plan.specs.laws.PathRows.{row-length, path-count, links-short}
+use Rattle.memory_plan.specs.Memory.{setsOf, endOf, endsOf, rowsOf, pathRow, pathsInOrder, pathsOf, numbersWith, numbersOf}
+
+-- a word tells the test that it was made of
+pub packed-told : (t u : ℕ → Bool) → packed t ≡ packed u → (k : ℕ) → k < 64 → t k ≡ u k
+packed-told t u e k h = sym (member-packed-below k t h) ∙ ap (member k) e ∙ member-packed-below k u h
+
+-- `sets`
+module _ (p q : Plan) (e : setsOf p ≡ setsOf q) where
+  kind-told : (kind n : ℕ) → kind < 2 → n < 64 → hasKind p kind n ≡ hasKind q kind n
+  unfolding setsOf
+  kind-told zero n l h = packed-told _ _ (ap (λ xs. nth xs 0) e) n h
+  kind-told (suc zero) n l h = packed-told _ _ (ap (λ xs. nth xs 1) e) n h
+  kind-told (suc (suc k)) n l h = absurd (omega arith)
+
+  link-told : (n : ℕ) → n < 64 → isLink p n ≡ isLink q n
+  unfolding setsOf
+  link-told n h = packed-told _ _ (ap (λ xs. nth xs 2) e) n h
+
+  -- each device of p is one of q
+  pub told-devices : Each p outOfRange false → Among (λ (d : Device). d) (p .devices) (q .devices)
+  unfolding hasKind
+  told-devices r d m =
+      let g = device-ranged p r d m in
+      let here : hasKind p (d .kind) (d .num) ≡ true = any-intro _ (p .devices) d m (true-both (eq-eqb (d .num) (d .num) refl) (eq-eqb (d .kind) (d .kind) refl)) in
+      let (c, n, f) = any-elim _ (q .devices) (sym (kind-told (d .kind) (d .num) (g .kind) (g .num)) ∙ here) in
+      let (a, b) = both-true (eqb (d .num) (c .num)) (eqb (d .kind) (c .kind)) f in
+      (c, n, ap₂ make (eqb-true (d .num) (c .num) a) (eqb-true (d .kind) (c .kind) b))
+    where
+      make : ℕ → ℕ → Device
+      make n k = record { num = n; kind = k }
+
+-- `ends`
+ends-told : (p q : Plan) → endsOf p ≡ endsOf q → (side n : ℕ) → side < 2 → n < 64
+    → endOf side (find (λ (l : Link). eqb n (l .num)) (p .links)) ≡ endOf side (find (λ (l : Link). eqb n (l .num)) (q .links))
+unfolding endsOf
+ends-told p q e side n l h =
+    let a : (2 * n + side) % 2 ≡ side = omega arith in
+    let b : (2 * n + side) / 2 ≡ n = omega arith in
+    rw (a, b) at (cells-told 128 _ _ e (2 * n + side) (omega arith))
+
+-- each link of p is one of q, up to which end stands first
+pub told-links : (p q : Plan) → setsOf p ≡ setsOf q → endsOf p ≡ endsOf q → Each p outOfRange false → repeats sameLinkNumber (p .links) ≡ false
+    → Among smallFirst (p .links) (q .links)
+unfolding isLink sameLinkNumber endOf smallFirst
+told-links p q e f r u l m =
+    let h = (link-ranged p r l m) .num in
+    let mine : t l ≡ true = eq-eqb (l .num) (l .num) refl in
+    let here : isLink p (l .num) ≡ true = any-intro t (p .links) l m mine in
+    let (j, i, yours) = any-elim t (q .links) (sym (link-told p q e (l .num) h) ∙ here) in
+    let (k, found) = find-has t (q .links) j i yours in
+    let (n, g) = find-some t (q .links) k found in
+    let one : find t (p .links) ≡ some l = find-one t (p .links) l (one-key (λ l. l .num) (p .links) u (l .num)) m mine in
+    let small : min (l .one) (l .other) ≡ min (k .one) (k .other) = rw (one, found) at (ends-told p q f 0 (l .num) (omega arith) h) in
+    let great : max (l .one) (l .other) ≡ max (k .one) (k .other) = rw (one, found) at (ends-told p q f 1 (l .num) (omega arith) h) in
+    let num : l .num ≡ k .num = eqb-true (l .num) (k .num) g in
+    (k, n, λ i. record { num = num i; one = small i; other = great i })
+  where
+    t : Link → Bool
+    t k = eqb (l .num) (k .num)
+
+-- `paths`: a row of eleven bytes tells its path
+row-told : (x y : Route) → pathRow x ≡ pathRow y → x ≡ y
+unfolding pathRow
+row-told x y e =
+    let a : x .start ≡ y .start = cc in
+    let b : x .end ≡ y .end = cc in
+    let l : length (x .links) ≡ length (y .links) = cc in
+    let d : padded 8 0 (x .links) ≡ padded 8 0 (y .links) = cc in
+    let f = padded-told 8 0 (x .links) (y .links) l d in
+    λ i. record { start = a i; end = b i; links = f i }
+
+-- `numbers`
+module _ (p q : Plan) (e : numbersOf p ≡ numbersOf q) where
+  number-told : (k : ℕ) → nth (numbersOf p) k ≡ nth (numbersOf q) k
+  number-told k = ap (λ xs. nth xs k) e
+
+  pub told-timings : length (p .timings) ≡ 1 → length (q .timings) ≡ 1 → p .timings ≡ q .timings
+  unfolding numbersWith leastOf greatestOf
+  told-timings g h = go (p .timings) (q .timings) g h (number-told 0) (number-told 1)
+    where
+      go : (ts us : List Timing) → length ts ≡ 1 → length us ≡ 1 → leastOf ts ≡ leastOf us → greatestOf ts ≡ greatestOf us → ts ≡ us
+      go [] us g h a b = absurd (omega arith)
+      go (t ∷ ts) [] g h a b = absurd (omega arith)
+      go (t ∷ []) (u ∷ []) g h a b = λ i. record { least = a i; greatest = b i } ∷ []
+      go (t ∷ []) (u ∷ v ∷ us) g h a b = absurd (omega arith)
+      go (t ∷ s ∷ ts) (u ∷ us) g h a b = absurd (omega arith)
+
+  pub told-initiators : rowsOf p ≡ rowsOf q → initiators p ≡ initiators q
+  unfolding numbersWith rowsOf
+  told-initiators f = padded-told 8 0 (initiators p) (initiators q) (number-told 2) f
+
+  pub told-paths : Good p → Good q → pathsOf p ≡ pathsOf q → pathsInOrder p ≡ pathsInOrder q
+  unfolding numbersWith pathsOf
+  told-paths g h f =
+      let l : length (pathsInOrder p) ≡ length (pathsInOrder q) = path-count p (g .lengths) (g .ranges) ∙ number-told 3 ∙ sym (path-count q (h .lengths) (h .ranges)) in
+      let same = even-length pathRow 11 _ row-length (pathsInOrder p) (links-short p (g .lengths) (g .ranges)) ∙ ap (λ n. 11 * n) l ∙ sym (even-length pathRow 11 _ row-length (pathsInOrder q) (links-short q (h .lengths) (h .ranges))) in
+      parts-told pathRow 11 _ row-length row-told (pathsInOrder p) (pathsInOrder q) (links-short p (g .lengths) (g .ranges)) (links-short q (h .lengths) (h .ranges)) l (padded-told 1408 0 _ _ same f)

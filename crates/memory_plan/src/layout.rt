@@ -1,0 +1,67 @@
+// The layout of plan memory: eight arrays that the caller lends, with the places and the strides in them. What they hold is said in
+// specs/Memory; nothing else names a place by its number.
+
+// `sets`: the nodes, the routers and the links that are given, each a word.
+pub const SETS: usize = 3;
+
+pub type Sets = [u64; SETS];
+
+pub const NODES: usize = 0;
+
+pub const ROUTERS: usize = 1;
+
+pub const LINKS: usize = 2;
+
+// `ends`: of each link its two devices.
+pub const ENDS: usize = 128;
+
+pub type Ends = [u8; ENDS];
+
+// `rows`: the initiators. An initiator's place here is its row in `reach`, `spans` and `aims`.
+pub const ROWS: usize = 8;
+
+pub type Rows = [u8; ROWS];
+
+// `reach`: for each row the targets to which there is a path.
+pub type Reach = [u64; ROWS];
+
+// `paths`: a row of bytes for each path: initiator, target, how many links, the links.
+pub const MOST_PATHS: usize = 128;
+
+pub const PATH: usize = 11;
+
+pub const PATH_TARGET: usize = 1;
+
+pub const PATH_COUNT: usize = 2;
+
+pub const PATH_LINKS: usize = 3;
+
+pub const PATH_BYTES: usize = 1408;
+
+pub type Paths = [u8; PATH_BYTES];
+
+// `spans` and `aims`: a cell for each row and slot, at row × SLOTS + slot.
+pub const SLOTS: usize = 64;
+
+pub const CELLS: usize = 512;
+
+pub type Spans = [u8; CELLS];
+
+pub type Aims = [u64; CELLS];
+
+// `numbers`: least and greatest interval, how many initiators, paths and entries there are, the size of the plan written out.
+pub const NUMBERS: usize = 6;
+
+pub type Numbers = [u32; NUMBERS];
+
+pub const LEAST: usize = 0;
+
+pub const GREATEST: usize = 1;
+
+pub const INITIATORS: usize = 2;
+
+pub const PATHS: usize = 3;
+
+pub const ENTRIES: usize = 4;
+
+pub const SIZE: usize = 5;

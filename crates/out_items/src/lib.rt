@@ -1,0 +1,68 @@
+// Devices, links and intervals in memory as fields of a file again, in a lent buffer.
+// No function here stores a byte that has no room, whatever the memory holds.
+ghost use mathlib.Core.List.{flatMap};
+ghost use Rattle.lists.specs.Search.{below64};
+ghost use Rattle.lists.specs.Puts.{Puts};
+ghost use Rattle.rules_plan.specs.Fields.{fourBytes};
+ghost use Rattle.out_items.specs.Out.{deviceBytes, linkBytes, timingBytes};
+use bitsets::has;
+use bitsets::least;
+use bitsets::union;
+use bitsets::without_least;
+use memory_plan::layout::Ends;
+use out_verdict::print::put;
+
+// The devices, by number.
+pub fn put_devices(out: &mut [u8], at: usize, nodes: u64, routers: u64) -> usize
+    ensures { λ r. ⌜ Puts (now (out .entry)) at (flatMap (deviceBytes nodes routers) below64) (now (out .exit)) r ⌝ }
+{
+    let mut k = at;
+    let mut rest = union(nodes, routers);
+    while rest != 0 {
+        let n = least(rest) as u8;
+        let device = [1, 0, 2, n, has(routers, n) as u8];
+        k = put(out, k, &device);
+        rest = without_least(rest);
+    }
+    k
+}
+
+// The links, by number, the smaller device first.
+pub fn put_links(out: &mut [u8], at: usize, links: u64, ends: &Ends) -> usize
+    ensures { λ r. ⌜ Puts (now (out .entry)) at (flatMap (linkBytes links (now (ends .entry))) below64) (now (out .exit)) r ⌝ }
+{
+    let mut k = at;
+    let mut rest = links;
+    while rest != 0 {
+        let n = least(rest) as u8;
+        let i = 2 * (n as usize);
+        let smaller = ends[i];
+        let greater = ends[i + 1];
+        let link = [2, 0, 3, n, smaller, greater];
+        k = put(out, k, &link);
+        rest = without_least(rest);
+    }
+    k
+}
+
+// A number in four bytes, most significant first.
+fn put_four(out: &mut [u8], at: usize, n: u32) -> usize
+    ensures { λ r. ⌜ Puts (now (out .entry)) at (fourBytes n) (now (out .exit)) r ⌝ }
+{
+    let first = (n / 16_777_216) as u8;
+    let second = (n / 65_536 % 256) as u8;
+    let third = (n / 256 % 256) as u8;
+    let fourth = (n % 256) as u8;
+    let four = [first, second, third, fourth];
+    put(out, at, &four)
+}
+
+// The timing: the least and the greatest interval.
+pub fn put_timing(out: &mut [u8], at: usize, least: u32, greatest: u32) -> usize
+    ensures { λ r. ⌜ Puts (now (out .entry)) at (timingBytes least greatest) (now (out .exit)) r ⌝ }
+{
+    let head = [5, 0, 8];
+    let k = put(out, at, &head);
+    let j = put_four(out, k, least);
+    put_four(out, j, greatest)
+}

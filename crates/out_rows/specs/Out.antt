@@ -1,0 +1,32 @@
+-- The bytes that writing out puts for a path and an entry, as the code finds them in plan memory.
+use Prim.Native.Nat.{ℕ, _+_, _*_, _/_, _%_}
+use mathlib.Core.List.{List, [], map, flatMap}
+use mathlib.Core.Bool.{_||_, cond}
+use lib.Dec.{ltb, eqb}
+use Rattle.lists.specs.Search.{keep, upFrom, below64}
+use Rattle.bitsets.specs.Set.{members}
+use Rattle.rules_plan.specs.Plan.{nth}
+use Rattle.rules_plan.specs.Fields.{fieldFor}
+use Rattle.memory_plan.specs.Take.{pathItem, entryItem}
+
+-- the links from a place of memory on, so many of them
+unfoldable pub linksFrom : List ℕ → ℕ → ℕ → List ℕ
+linksFrom paths start count = map (nth paths) (upFrom count start)
+
+-- of the path in row n: a row has one to eight links, or is unused
+unfoldable pub pathBytes : List ℕ → ℕ → List ℕ
+pathBytes paths n =
+    let count = nth paths (11 * n + 2) in
+    cond (ltb 8 count || eqb count 0) [] (fieldFor (pathItem (nth paths (11 * n)) (nth paths (11 * n + 1)) (linksFrom paths (11 * n + 3) count)))
+
+-- the members of a set, rising
+unfoldable pub rises : ℕ → List ℕ
+rises s = keep (members s) below64
+
+-- of the entry in cell n: an entry has a span
+unfoldable pub entryBytes : List ℕ → List ℕ → List ℕ → ℕ → List ℕ
+entryBytes rows spans aims n = cond (eqb (nth spans n) 0) [] (fieldFor (entryItem (nth rows (n / 64)) (n % 64) (nth spans n) (rises (nth aims n))))
+
+-- of the entries in the eight cells from n on
+unfoldable pub eightBytes : List ℕ → List ℕ → List ℕ → ℕ → List ℕ
+eightBytes rows spans aims n = flatMap (λ (s : ℕ). entryBytes rows spans aims (n + s)) (upFrom 8 0)

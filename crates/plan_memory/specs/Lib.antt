@@ -1,4 +1,0 @@
-pub mod Memory
-pub mod Held
-pub mod Take
-pub mod laws

@@ -1,2 +1,0 @@
-pub mod NoRow
-pub mod NotPermitted

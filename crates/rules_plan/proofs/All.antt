@@ -1,0 +1,18 @@
+-- All that is promised of the definitions.
+use Rattle.rules_plan.specs.Promises.{Promises}
+use Rattle.rules_plan.proofs.Meaning.{covers-as-worded, uses-as-worded, permits-as-worded}
+use Rattle.rules_plan.proofs.Words.{verdicts-as-worded}
+use Rattle.rules_plan.proofs.Exactly.{accepted-exactly}
+use Rattle.rules_plan.proofs.Back.{same-plans, comes-back, accepted-sound}
+
+pub promised : Promises
+promised = record {
+  covers = covers-as-worded;
+  uses = uses-as-worded;
+  permits = permits-as-worded;
+  words = verdicts-as-worded;
+  exactly = accepted-exactly;
+  same = same-plans;
+  back = comes-back;
+  sound = accepted-sound;
+}

@@ -1,0 +1,79 @@
+-- What is proved of the definitions, each promise a type that reads like the sentence it stands for.
+use mathlib.Core.Path.{_≡_}
+use mathlib.Core.Logic.{_↔_}
+use mathlib.Core.List.{List, List·Memᴰ}
+use mathlib.Core.Bool.{true}
+use Prim.Native.Nat.{ℕ, _+_, _*_, _%_, _≤_, _<_}
+use lib.ListN.{length}
+use Rattle.rules_plan.specs.declared.Verdict.{Verdict}
+use Rattle.rules_plan.specs.Plan.{Route, Entry, Plan}
+use Rattle.rules_plan.specs.Meaning.{covers, uses, permits}
+use Rattle.rules_plan.specs.Verdict.{number}
+use Rattle.rules_plan.specs.Judge.{judge}
+use Rattle.rules_plan.specs.Canon.{written, given, planOf, SamePlan}
+use Rattle.rules_plan.specs.Good.{Bytes, Good}
+use Rattle.rules_plan.specs.Words.{Gets}
+use Rattle.rules_plan.specs.laws.Sound.{Sound}
+
+-- a file that is accepted
+abbrev pub Accepted? : List ℕ → Type 0
+Accepted? s = number (judge s) ≡ 0
+
+-- "Entry (initiator, slot s, span n) covers slots s to s+n-1, modulo 64."
+unfoldable pub CoversAsWorded : Type 0
+CoversAsWorded =
+    (e : Entry) (s : ℕ) → e .slot < 64 → e .span ≤ 64 → s < 64 →
+    (covers e s ≡ true) ↔ ((k : ℕ) × (k < e .span) × (s ≡ (e .slot + k) % 64))
+
+-- "A transaction uses the links of its path."
+pub record OnPath (p : Plan) (i t l : ℕ) : Type 0 where
+  pub route : Route
+  pub has : List·Memᴰ route (p .paths)
+  pub from : i ≡ route .start
+  pub to : t ≡ route .end
+  pub on : List·Memᴰ l (route .links)
+
+unfoldable pub UsesAsWorded : Type 0
+UsesAsWorded = (p : Plan) (i t l : ℕ) → (uses p i t l ≡ true) ↔ OnPath p i t l
+
+-- "permits the target with 256 × span at least the length"
+unfoldable pub PermitsAsWorded : Type 0
+PermitsAsWorded = (p : Plan) (e : Entry) (t n : ℕ) → (permits p e t n ≡ true) ↔ (List·Memᴰ t (e .targets) × (n ≤ 256 * e .span))
+
+-- The verdict that is computed is the verdict in words, and there is no other.
+unfoldable pub VerdictsAsWorded : Type 0
+VerdictsAsWorded = (s : List ℕ) (v : Verdict) → Gets s v ↔ (judge s ≡ v)
+
+-- A file is accepted exactly when it is a good plan written out in some order of its items.
+unfoldable pub AcceptedExactly : Type 0
+AcceptedExactly = (s : List ℕ) → Bytes s → Accepted? s ↔ ((p : Plan) × (s ≡ written p) × Good p)
+
+-- "Plans are the same if they differ in these orders only": two accepted files give the same canonical plan exactly when they
+-- differ in these orders only.
+unfoldable pub SamePlans : Type 0
+SamePlans = (s t : List ℕ) → Accepted? s → Accepted? t → SamePlan (given s) (given t) ↔ (planOf s ≡ planOf t)
+
+-- A plan written out is accepted with the same counts, is the same plan, is written out as the same bytes, and is as long as its file.
+pub record ComesBack (s : List ℕ) : Type 0 where
+  pub verdict : judge (written (planOf s)) ≡ judge s
+  pub plan : planOf (written (planOf s)) ≡ planOf s
+  pub bytes : written (planOf (written (planOf s))) ≡ written (planOf s)
+  pub size : length (written (planOf s)) ≡ length s
+  pub most : length (written (planOf s)) ≤ 13_643
+
+unfoldable pub WrittenOutComesBack : Type 0
+WrittenOutComesBack = (s : List ℕ) → Accepted? s → ComesBack s
+
+-- The plan that an accepted file gives is one that a box can run: no overrun, no clash, at most eight initiators.
+unfoldable pub AcceptedIsSound : Type 0
+AcceptedIsSound = (s : List ℕ) → Accepted? s → Sound (planOf s)
+
+pub record Promises : Type 0 where
+  pub covers : CoversAsWorded
+  pub uses : UsesAsWorded
+  pub permits : PermitsAsWorded
+  pub words : VerdictsAsWorded
+  pub exactly : AcceptedExactly
+  pub same : SamePlans
+  pub back : WrittenOutComesBack
+  pub sound : AcceptedIsSound

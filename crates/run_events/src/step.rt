@@ -1,0 +1,82 @@
+// One step: the event decides.
+ghost use lib.ListN.{length};
+ghost use Rattle.rules_box.specs.State.{Box};
+ghost use Rattle.rules_box.specs.Step as rules;
+ghost use Rattle.memory_run.specs.Memory.{Finds, Does};
+use crate::reading::reading;
+use memory_plan::layout::Aims;
+use memory_plan::layout::Numbers;
+use memory_plan::layout::Rows;
+use memory_plan::layout::Spans;
+use memory_run::layout::Last;
+use memory_run::layout::Run;
+use rules_box::Event;
+use rules_box::Watchdog;
+use run_requests::reply::reply;
+use run_requests::request::request;
+use run_timecodes::time::time_code;
+use run_watchdog::watch::Stepped;
+
+// Every event, the five numbers by value.
+pub fn step(
+    rows: &Rows,
+    spans: &Spans,
+    aims: &Aims,
+    numbers: &Numbers,
+    run: &mut Run,
+    last: &mut Last,
+    w: Watchdog,
+    event: Event,
+    records: &mut [u8],
+) -> Stepped
+    ensures { λ r. ⌜ ((b : Box) → Finds b (now (rows .entry)) (now (spans .entry)) (now (aims .entry)) (now (numbers .entry)) (now (run .entry)) (now (last .entry)) →
+        Does (rules.step (length (now (records .entry))) b w event) (rules.clockOf event) (r .answer) (r .watchdog) (now (run .exit)) (now (last .exit)) (now (records .entry)) (now (records .exit))) ⌝ }
+{
+    match event {
+        Event::TimeCode { byte, clock } => time_code(
+            spans,
+            aims,
+            numbers,
+            run,
+            last,
+            w,
+            byte,
+            clock,
+            records,
+        ),
+        Event::Request {
+            initiator,
+            target,
+            kind,
+            length,
+        } => {
+            let answer = request(
+                rows,
+                spans,
+                aims,
+                numbers,
+                run,
+                initiator,
+                target,
+                kind,
+                length,
+            );
+            Stepped {
+                answer,
+                watchdog: w,
+            }
+        }
+        Event::Reply {
+            initiator,
+            number,
+            status,
+        } => {
+            let answer = reply(rows, numbers, run, initiator, number, status);
+            Stepped {
+                answer,
+                watchdog: w,
+            }
+        }
+        Event::Reading { clock } => reading(numbers, w, clock),
+    }
+}

@@ -1,0 +1,110 @@
+-- A request, row by row of the refusals; where the plan permits it, what is told of its initiator's row.
+use mathlib.Core.Path.{_≡_, refl, sym, _∙_}
+use mathlib.Core.List.{List, _++_}
+use mathlib.Core.Option.{Option, some}
+use mathlib.Core.Bool.{Bool, true, false, cond}
+use Prim.Native.Nat.{ℕ, _*_, _≤_, _<_}
+use lib.ListN.{take, drop}
+use lib.Dec.{eqb, ltb}
+use borrow.Author.Tests.{lt-ltb, le-ltb}
+use Rattle.lists.specs.Search.{isSome}
+use Rattle.lists.specs.Rows.{firstOf}
+use Rattle.lists.specs.Place.{atPlace}
+use Rattle.lists.specs.laws.Bools.{cond-cases}
+use Rattle.rules_plan.specs.Plan.{Plan}
+use Rattle.rules_plan.specs.Meaning.{isInitiator, initiators, leastSpan}
+use Rattle.memory_plan.specs.View.{Timed, owner, ownerOf}
+use Rattle.rules_box.specs.declared.Event.the-variants.{Request}
+use Rattle.rules_box.specs.declared.Answer.{Answer}
+use Rattle.rules_box.specs.declared.Answer.the-variants.{Refused}
+use Rattle.rules_box.specs.declared.Watchdog.{Watchdog}
+use Rattle.rules_box.specs.State.{Box, Side, noPlan, thePlan}
+use Rattle.rules_box.specs.Turn.{join}
+use Rattle.rules_box.specs.Refuse.{refusal, refusals, mayStart}
+use Rattle.rules_box.specs.Step.{step, accepts}
+use Rattle.rules_box.specs.laws.Fit.{FitSide}
+use Rattle.rules_box.specs.laws.Steps.{step-accepted}
+use Rattle.rules_box.specs.laws.Permitted.{permitted-short}
+use Rattle.memory_run.specs.Run.{rowOf, sideOf, changed, rowsWith}
+use Rattle.memory_run.specs.laws.RunSides.{on-row, runs-kept, runs-changed}
+use Rattle.run_requests.specs.Asked.{Tried, isFull, askedAnswer, askedSide}
+use Rattle.memory_run.specs.Memory.{Finds, Answers}
+use Rattle.memory_run.specs.laws.Found.{Rowed, plan-by-row, is-initiator, its-row, no-initiator}
+use Rattle.memory_run.specs.laws.Refused.{refuses}
+use Rattle.run_requests.specs.NoRow.{noRow}
+use Rattle.run_requests.specs.NotPermitted.{notPermitted}
+use Rattle.run_requests.proofs.no_row.Strangers.{refused-strange}
+
+module _
+    {b : Box}
+    {rows spans aims numbers run last : List ℕ}
+    (f : Finds b rows spans aims numbers run last)
+    (room : ℕ)
+    (w : Watchdog)
+    (i t k n : ℕ)
+    (row : ℕ)
+    (rowed : Rowed rows numbers i row)
+  where
+    abbrev Gives : Answer → List ℕ → Type 0
+    Gives r run′ = Answers (step room b w (Request i t k n)) r run′ last
+
+    pub stranger : 8 ≤ row → (r : Answer) → ((o : Option Plan) → Timed o numbers → r ≡ noRow o) → Gives r run
+    unfolding refusal refusals firstOf noPlan
+    stranger h = refused-strange f room w (Request i t k n) by
+      where
+        by : (x : Bool) → isSome (b .plan) ≡ x → refusal room b (Request i t k n) ≡ cond x 22 20
+        by true e = rw (e, no-initiator f i row rowed h)
+        by false e = rw e
+
+    module _ (low : row < 8) where
+      there : isSome (b .plan) ≡ true
+      there = plan-by-row f i row rowed low
+
+      own : isInitiator (thePlan b) i ≡ true
+      own = is-initiator f i row rowed low
+
+      at : atPlace row (initiators (thePlan b)) ≡ some i
+      at = its-row f i row rowed low
+
+      pub other-kind : 1 < k → Gives (Refused 23) run
+      unfolding refusal refusals firstOf noPlan
+      other-kind h = refuses room b w (Request i t k n) 23 refl (rw (there, own, lt-ltb 1 k h)) run last (f .runs)
+
+      module _ (kind : k ≤ 1) (need : ℕ) (least : (p : Plan) (j u : ℕ) → need ≡ leastSpan p j u n) (y : Bool) (tried : Tried spans aims row t need y) where
+        may : mayStart (thePlan b) ((thePlan b) .entries) i t n ≡ y
+        unfolding thePlan
+        may = sym (tried (thePlan b) i n (record { sound = f .plan .sound; spans = f .plan .spans; aims = f .plan .aims; row = at; need = least (thePlan b) i t }))
+
+        pub barred : y ≡ false → (r : Answer) → r ≡ notPermitted n → Gives r run
+        unfolding refusal refusals firstOf noPlan notPermitted
+        barred h r is =
+            let some-row = cond-cases (λ (m : ℕ). eqb m 0 ≡ false) (ltb 4096 n) 24 25 (λ _. refl) (λ _. refl) in
+            rw is (refuses room b w (Request i t k n) _ some-row (rw (there, own, le-ltb 1 k kind, may, h)) run last (f .runs))
+
+        module _ (permitted : y ≡ true) where
+          last-row : (z : Bool) → isFull (b .side i) ≡ z → refusal room b (Request i t k n) ≡ cond z 26 0
+          unfolding refusal refusals firstOf noPlan isFull
+          last-row z h =
+              let short = permitted-short (thePlan b) (f .fit .sound) i t n (may ∙ permitted) in
+              rw (there, own, le-ltb 1 k kind, le-ltb 4096 n short, may, permitted, h)
+
+          -- the request's row, lent and back
+          pub asks : (r : Answer) (size : ℕ) (part : List ℕ) → size ≡ 12
+              → ((p : Plan) (s : Side) → FitSide s → need ≡ leastSpan p i t n → take size (drop (row * 12) run) ≡ rowOf (owner p i) s
+              → (r ≡ askedAnswer s) × (part ≡ rowOf (owner p i) (askedSide t k n s)))
+              → Gives r (take (row * 12) run ++ (part ++ drop size (drop (row * 12) run)))
+          unfolding askedAnswer askedSide accepts
+          asks r size part twelve does =
+              go (isFull (b .side i)) refl
+              (on-row b run last (f .runs) i row at askedAnswer (askedSide t k n) r size part (f .fit) low twelve (λ s fit is. does (thePlan b) s fit (least (thePlan b) i t) is))
+            where
+              go : (z : Bool) → isFull (b .side i) ≡ z
+                  → (r ≡ askedAnswer (b .side i)) × (take (row * 12) run ++ (part ++ drop size (drop (row * 12) run)) ≡ rowsWith (ownerOf (thePlan b)) (changed row (askedSide t k n (b .side i)) (sideOf (thePlan b) (b .side))))
+                  → Gives r (take (row * 12) run ++ (part ++ drop size (drop (row * 12) run)))
+              go true e h =
+                  let (a, m) = rw (e, askedAnswer, askedSide) at h in
+                  rw a (refuses room b w (Request i t k n) 26 refl (last-row true e) _ last (runs-kept b run last (f .runs) i row at _ m))
+              go false e h =
+                  let (a, m) = rw (e, askedAnswer, askedSide) at h in
+                  rw (step-accepted room b w (Request i t k n) (last-row false e), a)
+                  (record { answer = refl; runs = runs-changed b run last (f .runs) i row at (join t k n) _ m })

@@ -1,0 +1,107 @@
+-- `request` meets its contract. Assumes nothing.
+use Prim.Native.Nat.{_+_, _-_, _*_}
+use native.Mathlib.Omega.{arith}
+use borrow.Author.Tests.{not-true, not-false}
+use Rattle.run_requests.proofs.request.Asks.{stranger, other-kind, barred, asks}
+use borrow.Author.Needs.{needs}
+use Rattle.run_requests.proofs.request.request.Statement.{statement}
+use Rattle.run_requests.proofs.request.request.Tie as tie
+
+row-for-requires : tie.Need-row-for-requires
+row-for-requires c κs = search needs
+
+no-row-requires : tie.Need-no-row-requires
+no-row-requires c κs = search needs
+
+returns : tie.Need-returns
+returns c =
+    let r = c .before .before .row-for in
+    let a = c .before .before .before .before .args in
+    λ b last f room w. stranger f room w (a .initiator) (a .target) (a .kind) (a .length) (r .result) (r .ensures) (c .before .if1 .taken) (c .no-row .result) (c .no-row .ensures)
+
+returns-2 : tie.Need-returns-2
+returns-2 c =
+    let r = c .before .before .row-for in
+    let a = c .before .before .before .before .args in
+    λ b last f room w. other-kind f room w (a .initiator) (a .target) (a .kind) (a .length) (r .result) (r .ensures) (omega arith) (c .if2 .taken)
+
+least-span-requires : tie.Need-least-span-requires
+least-span-requires c κs = search needs
+
+may-start-requires : tie.Need-may-start-requires
+may-start-requires c κs = search needs
+
+not-permitted-requires : tie.Need-not-permitted-requires
+not-permitted-requires c κs = search needs
+
+returns-3 : tie.Need-returns-3
+returns-3 c =
+    let y = c .before .before .may-start in
+    let n = c .before .before .before .least-span in
+    let r = c .before .before .before .before .before .before .row-for in
+    let a = c .before .before .before .before .before .before .before .before .args in
+    λ b last f room w.
+    barred f room w (a .initiator) (a .target) (a .kind) (a .length) (r .result) (r .ensures) (omega arith) (omega arith) (n .result) (n .ensures) (y .result) (y .ensures)
+    (not-true _ (c .before .if3 .taken)) (c .not-permitted .result) (c .not-permitted .ensures)
+
+mul-ask-row : tie.Need-mul-ask-row
+mul-ask-row c = search needs
+
+mul-ask-row-2 : tie.Need-mul-ask-row-2
+mul-ask-row-2 c = search needs
+
+add-ask-row : tie.Need-add-ask-row
+add-ask-row c = search needs
+
+mul-ask-row-3 : tie.Need-mul-ask-row-3
+mul-ask-row-3 c = search needs
+
+sub-ask-row : tie.Need-sub-ask-row
+sub-ask-row c = search needs
+
+part-ask-row-start : tie.Need-part-ask-row-start
+part-ask-row-start c = search needs
+
+part-ask-row-end : tie.Need-part-ask-row-end
+part-ask-row-end c = search needs
+
+ask-row-requires : tie.Need-ask-row-requires
+ask-row-requires c κs = search needs
+
+same-length : tie.Need-same-length
+same-length c = search needs
+
+returns-4 : tie.Need-returns-4
+returns-4 c =
+    let m = c .before .before .ask-row in
+    let y = c .before .before .before .before .before .may-start in
+    let n = c .before .before .before .before .before .before .least-span in
+    let r = c .before .before .before .before .before .before .before .before .before .row-for in
+    let a = c .before .before .before .before .before .before .before .before .before .before .before .args in
+    let size = r .result * 12 + 12 - r .result * 12 in
+    λ b last f room w.
+    asks f room w (a .initiator) (a .target) (a .kind) (a .length) (r .result) (r .ensures) (omega arith) (omega arith) (n .result) (n .ensures) (y .result) (y .ensures)
+    (not-false _ (c .before .before .before .before .if3 .left)) (m .result) size (m .last .0) (omega arith) (m .ensures)
+
+pub request-spec : {M : Type 1} → statement M
+request-spec =
+    tie.close
+    (tie.spec
+    row-for-requires
+    no-row-requires
+    returns
+    returns-2
+    least-span-requires
+    may-start-requires
+    not-permitted-requires
+    returns-3
+    mul-ask-row
+    mul-ask-row-2
+    add-ask-row
+    mul-ask-row-3
+    sub-ask-row
+    part-ask-row-start
+    part-ask-row-end
+    ask-row-requires
+    same-length
+    returns-4)

@@ -1,0 +1,5 @@
+pub mod Asked
+pub mod Replied
+pub mod laws
+pub mod NoRow
+pub mod NotPermitted

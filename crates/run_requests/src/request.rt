@@ -1,0 +1,69 @@
+// A request: "Joins its initiator's line and gets that initiator's next 16-bit transaction number".
+ghost use mathlib.Core.Path.{_≡_};
+ghost use mathlib.Core.List.{List};
+ghost use Prim.Native.Nat.{ℕ};
+ghost use Rattle.rules_box.specs.declared.Event.the-variants.{Request};
+ghost use Rattle.rules_box.specs.declared.Watchdog.{Watchdog};
+ghost use Rattle.rules_box.specs.State.{Box};
+ghost use Rattle.rules_box.specs.Step as rules;
+ghost use Rattle.memory_run.specs.Row.{IsRun};
+ghost use Rattle.memory_run.specs.Memory.{Finds, Answers};
+ghost use Rattle.run_requests.specs.NotPermitted.{notPermitted};
+use crate::asking::ask_row;
+use crate::asking::may_start;
+use crate::no_row::no_row;
+use memory_plan::entry::least_span;
+use memory_plan::layout::Aims;
+use memory_plan::layout::Numbers;
+use memory_plan::layout::Rows;
+use memory_plan::layout::Spans;
+use memory_plan::row::row_for;
+use memory_run::layout::ROW;
+use rules_box::Answer;
+
+// 24 "length over 4,096", 25 "no entry of this initiator permits the target …". What an entry permits is never longer: only where none does
+// is 24 told from 25.
+fn not_permitted(length: u16) -> Answer
+    ensures { λ r. ⌜ r ≡ notPermitted length ⌝ }
+{
+    if 4096 < length {
+        return Answer::Refused { number: 24 };
+    }
+    Answer::Refused { number: 25 }
+}
+
+pub fn request(
+    rows: &Rows,
+    spans: &Spans,
+    aims: &Aims,
+    numbers: &Numbers,
+    run: &mut [u64],
+    initiator: u8,
+    target: u8,
+    kind: u8,
+    length: u16,
+) -> Answer
+    requires { ⌜ IsRun (now run) ⌝ }
+    ensures { λ r. ⌜ ((b : Box) (last : List ℕ) → Finds b (now (rows .entry)) (now (spans .entry)) (now (aims .entry)) (now (numbers .entry)) (now (run .entry)) last →
+        (room : ℕ) (w : Watchdog) → Answers (rules.step room b w (Request initiator target kind length)) r (now (run .exit)) last) ⌝ }
+{
+    let row = row_for(rows, numbers, initiator);
+    if 8 <= row {
+        return no_row(numbers);
+    }
+    if 1 < kind {
+        return Answer::Refused { number: 23 };
+    }
+    let need = least_span(length);
+    if !may_start(spans, aims, row, target, need) {
+        return not_permitted(length);
+    }
+    ask_row(
+        &mut run[row * ROW..row * ROW + ROW],
+        initiator,
+        target,
+        kind,
+        need,
+        length,
+    )
+}

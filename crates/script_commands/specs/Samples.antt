@@ -1,0 +1,51 @@
+-- Lines of the script, those of REPLAY.md's example first, and the command that each one is.
+use Prim.Native.String.{String}
+use mathlib.Core.Path.{_≡_}
+use mathlib.Core.List.{List, [], _∷_, map}
+use Rattle.rules_plan.specs.Print.{text}
+use Rattle.script_commands.specs.declared.command.Command.{Command}
+use Rattle.script_commands.specs.declared.command.Command.the-variants.{Skip, Bad, Load, Clear, TimeCode, Request, Reply, Reading, Out, Watchdog, SetWatchdog}
+use Rattle.script_commands.specs.Script.{commandOf}
+
+unfoldable pub samples : List (String × Command)
+samples =
+    ("load 0500080000005a0000006e", Load 5)
+    ∷ ("tc 0 1000 136", TimeCode 0 1_000 136)
+    ∷ ("clk 1111", Reading 1_111)
+    -- the words
+    ∷ ("", Skip)
+    ∷ ("# clear", Skip)
+    ∷ ("clear", Clear)
+    ∷ ("clear ", Bad)
+    ∷ (" clear", Bad)
+    ∷ ("wd", Watchdog)
+    ∷ ("wd 0", Bad)
+    -- the numbers and their ranges
+    ∷ ("clk 0001111", Reading 1_111)
+    ∷ ("clk", Bad)
+    ∷ ("clk ", Bad)
+    ∷ ("clk  1", Bad)
+    ∷ ("clk 1:", Bad)
+    ∷ ("clk 4294967295", Reading 4_294_967_295)
+    ∷ ("clk 4294967296", Bad)
+    ∷ ("tc 255 0 4096", TimeCode 255 0 4_096)
+    ∷ ("tc 256 0 0", Bad)
+    ∷ ("tc 0 0 4097", Bad)
+    ∷ ("req 1 3 255 65535", Request 1 3 255 65_535)
+    ∷ ("req 1 3 255", Bad)
+    ∷ ("rep 1 65535 255", Reply 1 65_535 255)
+    ∷ ("rep 1 65536 255", Bad)
+    ∷ ("out 32768", Out 32_768)
+    ∷ ("out 32769", Bad)
+    ∷ ("setwd 1 0 2 90 110", SetWatchdog 1 0 2 90 110)
+    -- the bytes
+    ∷ ("load -", Load 5)
+    ∷ ("load 5", Bad)
+    ∷ ("load 5A", Bad)
+    ∷ ("load 5g", Bad)
+    ∷ ("load 5a ", Bad)
+    ∷ []
+
+-- every line is the command beside it
+unfoldable pub Samples : Type 0
+Samples = map (λ (s : String × Command). commandOf (text (s .0))) samples ≡ map (λ (s : String × Command). s .1) samples

@@ -1,0 +1,78 @@
+-- "The script that `replay` reads": one line of it as a command. Bytes are ASCII: 35 is `#`.
+use mathlib.Core.List.{List, [], _∷_}
+use mathlib.Core.Option.{none, some}
+use mathlib.Core.Bool.{true, false}
+use Prim.Native.Nat.{ℕ}
+use lib.Dec.{eqb}
+use lib.ListN.{getD}
+use Rattle.rules_plan.specs.Print.{text}
+use Rattle.script_words.specs.Words.{same, wordsOf, numbersOf}
+use Rattle.script_hex.specs.Hex.{bytesOf}
+use Rattle.script_commands.specs.declared.command.Kind.{Kind}
+use Rattle.script_commands.specs.declared.command.Kind.the-variants as kind
+use Rattle.script_commands.specs.declared.command.Command.{Command}
+use Rattle.script_commands.specs.declared.command.Command.the-variants.{Skip, Bad, Load, Clear, TimeCode, Request, Reply, Reading, Out, Watchdog, SetWatchdog}
+
+-- the greatest numbers that may stand behind a command's name, and the command that they make
+unfoldable pub mosts : Kind → List ℕ
+-- "BYTE CLOCK BUF", "BUF (0 to 4,096)"
+mosts kind.TimeCode = 255 ∷ 4_294_967_295 ∷ 4_096 ∷ []
+-- "I T K L", "(I, T, K 0 to 255, L 0 to 65,535)"
+mosts kind.Request = 255 ∷ 255 ∷ 255 ∷ 65_535 ∷ []
+-- "I NUM STATUS", "(I, STATUS 0 to 255, NUM 0 to 65,535)"
+mosts kind.Reply = 255 ∷ 65_535 ∷ 255 ∷ []
+mosts kind.Reading = 4_294_967_295 ∷ []
+-- "ROOM bytes (0 to 32,768)"
+mosts kind.Out = 32_768 ∷ []
+-- "LAST SEEN REPORTED LEAST GREATEST"
+mosts kind.SetWatchdog = 4_294_967_295 ∷ 4_294_967_295 ∷ 4_294_967_295 ∷ 4_294_967_295 ∷ 4_294_967_295 ∷ []
+
+unfoldable pub made : Kind → List ℕ → Command
+made kind.TimeCode ns = TimeCode (getD ns 0 0) (getD ns 1 0) (getD ns 2 0)
+made kind.Request ns = Request (getD ns 0 0) (getD ns 1 0) (getD ns 2 0) (getD ns 3 0)
+made kind.Reply ns = Reply (getD ns 0 0) (getD ns 1 0) (getD ns 2 0)
+made kind.Reading ns = Reading (getD ns 0 0)
+made kind.Out ns = Out (getD ns 0 0)
+made kind.SetWatchdog ns = SetWatchdog (getD ns 0 0) (getD ns 1 0) (getD ns 2 0) (getD ns 3 0) (getD ns 4 0)
+
+-- the table: a command's name, and the command by the words behind it
+unfoldable pub numbered : Kind → List (List ℕ) → Command
+numbered k ws = elim (numbersOf (mosts k) ws) [ none ↦ Bad | some ns ↦ made k ns ]
+
+unfoldable pub load : List (List ℕ) → Command
+load [] = Bad
+load (w ∷ []) = elim (bytesOf w) [ none ↦ Bad | some bytes ↦ Load 5 ]
+load (w ∷ v ∷ vs) = Bad
+
+unfoldable pub alone : Command → List (List ℕ) → Command
+alone c [] = c
+alone c (w ∷ ws) = Bad
+
+abbrev pub Row : Type 0
+Row = List ℕ × (List (List ℕ) → Command)
+
+unfoldable pub commands : List Row
+commands =
+    (text "load", load)
+    ∷ (text "clear", alone Clear)
+    ∷ (text "tc", numbered kind.TimeCode)
+    ∷ (text "req", numbered kind.Request)
+    ∷ (text "rep", numbered kind.Reply)
+    ∷ (text "clk", numbered kind.Reading)
+    ∷ (text "out", numbered kind.Out)
+    ∷ (text "wd", alone Watchdog)
+    ∷ (text "setwd", numbered kind.SetWatchdog)
+    ∷ []
+
+unfoldable pub named : List Row → List ℕ → List (List ℕ) → Command
+named [] name ws = Bad
+named (r ∷ rs) name ws = elim (same name (r .0)) [ true ↦ r .1 ws | false ↦ named rs name ws ]
+
+unfoldable pub ofWords : List (List ℕ) → Command
+ofWords [] = Bad
+ofWords (name ∷ ws) = named commands name ws
+
+-- "An empty line or one that begins with `#` is skipped"
+unfoldable pub commandOf : List ℕ → Command
+commandOf [] = Skip
+commandOf (c ∷ cs) = elim (eqb c 35) [ true ↦ Skip | false ↦ ofWords (wordsOf (c ∷ cs)) ]

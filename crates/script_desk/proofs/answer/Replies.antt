@@ -1,0 +1,93 @@
+-- The answer to each command is the answer to the line. Assumes nothing.
+use mathlib.Core.Path.{_≡_, refl, sym, ap, _∙_}
+use mathlib.Core.List.{List, []}
+use mathlib.Core.Option.{some}
+use Prim.Native.Nat.{ℕ, _-_, _≤_}
+use lib.ListN.{length, take, drop, replicate}
+use Rattle.lists.specs.laws.Parts.{from-to-end}
+use Rattle.rules_plan.specs.Print.{text}
+use Rattle.rules_box.specs.declared.Event.the-variants as event
+use Rattle.rules_box.specs.declared.Watchdog as five
+use Rattle.box_calls.specs.Calls.{Memory, ClearLeaves}
+use Rattle.script_hex.specs.Hex.{bytesOf, decoded}
+use Rattle.script_hex.specs.laws.Bytes.{bytes-decoded}
+use Rattle.script_commands.specs.declared.command.Command.{Command}
+use Rattle.script_commands.specs.declared.command.Command.the-variants.{Skip, Bad, Load, Clear, TimeCode, Request, Reply, Reading, Out, Watchdog, SetWatchdog}
+use Rattle.script_commands.specs.Script.{commandOf}
+use Rattle.script_commands.specs.laws.Loads.{load-line}
+use Rattle.script_commands.specs.laws.Rooms.{Rooms, line-rooms}
+use Rattle.script_answers.specs.Texts.{ended, errorLine, watchdogLine, Prints}
+use Rattle.script_desk.specs.Replay.{Kept, fiveOf, kept, Loaded, Stepped, WrittenOut, Replied, Answers}
+
+answers-as : {P Q : List ℕ → Type 0} {l o : List ℕ} {k : ℕ} → ((t : List ℕ) → P t → Q t) → Answers P l o k → Answers Q l o k
+answers-as f a = record { printed = a .printed; told = f (a .printed) (a .told); prints = a .prints }
+
+-- the line is the command that the code was told
+module _ (line : List ℕ) (n : ℕ) {c : Command} (e : c ≡ commandOf line) where
+  is : {d : Command} → c ≡ d → commandOf line ≡ d
+  is f = sym e ∙ f
+
+  module _ (k : Kept) {l : List ℕ} where
+    pub skip : c ≡ Skip → Answers (Replied (commandOf line) line n k k) l l 0
+    unfolding Replied
+    skip f = rw (is f) (record { printed = []; told = (refl, refl); prints = record { size = refl; holds = refl } })
+
+  module _ (k : Kept) {l o : List ℕ} {end : ℕ} where
+    pub bad : c ≡ Bad → Prints (errorLine n) l o end → Answers (Replied (commandOf line) line n k k) l o end
+    unfolding Replied
+    bad f p = rw (is f) (record { printed = errorLine n; told = (refl, refl); prints = p })
+
+    pub out : {room : ℕ} → c ≡ Out room → Answers (WrittenOut room (k .memory)) l o end → Answers (Replied (commandOf line) line n k k) l o end
+    unfolding Replied
+    out f a = rw (is f) (answers-as (λ t h. (refl, h)) a)
+
+    pub watchdog : c ≡ Watchdog → Prints (watchdogLine (k .five)) l o end → Answers (Replied (commandOf line) line n k k) l o end
+    unfolding Replied
+    watchdog f p = rw (is f) (record { printed = watchdogLine (k .five); told = (refl, refl); prints = p })
+
+    pub set : {last seen reported least greatest : ℕ} {w : five.Watchdog} → c ≡ SetWatchdog last seen reported least greatest → w ≡ fiveOf last seen reported least greatest → Prints (ended (text "OK")) l o end
+        → Answers (Replied (commandOf line) line n k (kept (k .memory) w)) l o end
+    unfolding Replied
+    set f g p = rw (is f) (record { printed = ended (text "OK"); told = (ap (kept (k .memory)) g, refl); prints = p })
+
+    module _ {after : Kept} where
+      pub load : {at : ℕ} → c ≡ Load at → Answers (Loaded (decoded 16_400 (take (length line - at) (drop at line))) after) l o end
+          → Answers (Replied (commandOf line) line n k after) l o end
+      unfolding Replied
+      load {at} f a =
+          let b : bytesOf (drop at line) ≡ some (decoded 16_400 (drop at line)) = bytes-decoded (drop at line) ((load-line line at (is f)) .bytes) in
+          rw (is f) (answers-as (λ t h. (decoded 16_400 (drop at line), b, h)) (rw (from-to-end at line) at a))
+
+      pub clear : c ≡ Clear → ClearLeaves (after .memory) (after .five) → Prints (ended (text "CLEARED")) l o end
+          → Answers (Replied (commandOf line) line n k after) l o end
+      unfolding Replied
+      clear f h p = rw (is f) (record { printed = ended (text "CLEARED"); told = (h, refl); prints = p })
+
+      pub time-code : {byte clock room : ℕ} → c ≡ TimeCode byte clock room → Answers (Stepped (event.TimeCode byte clock) (replicate room 0) k after) l o end
+          → Answers (Replied (commandOf line) line n k after) l o end
+      unfolding Replied
+      time-code f a = rw (is f) a
+
+      pub request : {i t m size : ℕ} → c ≡ Request i t m size → Answers (Stepped (event.Request i t m size) [] k after) l o end
+          → Answers (Replied (commandOf line) line n k after) l o end
+      unfolding Replied
+      request f a = rw (is f) a
+
+      pub reply : {i m status : ℕ} → c ≡ Reply i m status → Answers (Stepped (event.Reply i m status) [] k after) l o end
+          → Answers (Replied (commandOf line) line n k after) l o end
+      unfolding Replied
+      reply f a = rw (is f) a
+
+      pub reading : {clock : ℕ} → c ≡ Reading clock → Answers (Stepped (event.Reading clock) [] k after) l o end → Answers (Replied (commandOf line) line n k after) l o end
+      unfolding Replied
+      reading f a = rw (is f) a
+
+  -- what a command tells is in its range
+  pub load-within : {at : ℕ} → c ≡ Load at → at ≤ length line
+  load-within {at} f = (load-line line at (is f)) .within
+
+  pub records-within : {byte clock room : ℕ} → c ≡ TimeCode byte clock room → room ≤ 4_096
+  records-within f = rw (is f) at (line-rooms line)
+
+  pub out-within : {room : ℕ} → c ≡ Out room → room ≤ 32_768
+  out-within f = rw (is f) at (line-rooms line)

@@ -1,0 +1,116 @@
+-- Several words read as numbers, one after the other. Assumes nothing.
+use mathlib.Core.Path.{_≡_, refl, sym, ap, _∙_}
+use mathlib.Core.List.{List, [], _∷_, _++_, append-nil, append-assoc}
+use mathlib.Core.Option.{Option, none, some}
+use mathlib.Core.Bool.{Bool, true, false}
+use Prim.Native.Nat.{ℕ, _+_, _≤_, _<_}
+use native.Mathlib.Decide.{ℕ-discrete}
+use native.Mathlib.Numerals.{add-one}
+use native.Mathlib.Omega.{arith}
+use lib.ListN.{length, getD, set, take, drop, length-set, length-drop, drop-of-length-le}
+use lib.Seq.{drop-cons, take-suc-set, getD-set-same, getD-set-other}
+use lib.Dec.{eqb}
+use borrow.Author.Tests.{eqb-true, eqb-false}
+use Rattle.lists.specs.laws.Bools.{not-both}
+use Rattle.script_words.specs.Words.{numberOf, before, numbersOf}
+use Rattle.script_words.specs.Reading.{WordEnds, NumbersRead, behindWord, orNone}
+use Rattle.script_words.specs.laws.Words.{left-over, more-words}
+use Rattle.script_words.specs.laws.Numbers.{number-most}
+
+-- the number for none is none
+is-none : (most : ℕ) (w : List ℕ) → most < 4_294_967_296 → orNone (numberOf most w) ≡ 4_294_967_296 → numberOf most w ≡ none
+unfolding orNone
+is-none most w l h = go (numberOf most w) refl
+  where
+    go : (o : Option ℕ) → numberOf most w ≡ o → o ≡ none
+    go none e = refl
+    go (some n) e = absurd (omega (arith, number-most most w n e, rw e at h))
+
+is-number : (most : ℕ) (w : List ℕ) (n : ℕ) → n ≡ orNone (numberOf most w) → (n ≡ 4_294_967_296 → ⊥) → numberOf most w ≡ some n
+unfolding orNone
+is-number most w n h k = go (numberOf most w) refl
+  where
+    go : (o : Option ℕ) → numberOf most w ≡ o → o ≡ some n
+    go none e = absurd (k (h ∙ ap orNone e))
+    go (some m) e = ap some (sym (h ∙ ap orNone e))
+
+pub number-small : (most : ℕ) (w : List ℕ) (n : ℕ) → n ≡ orNone (numberOf most w) → (n ≡ 4_294_967_296 → ⊥) → n ≤ most
+number-small most w n h k = number-most most w n (is-number most w n h k)
+
+-- numbers in front of others
+unfoldable pub withFront : List ℕ → Option (List ℕ) → Option (List ℕ)
+withFront xs none = none
+withFront xs (some ns) = some (xs ++ ns)
+
+front-none : (o : Option (List ℕ)) → o ≡ withFront [] o
+unfolding withFront
+front-none none = refl
+front-none (some ns) = refl
+
+front-more : (xs : List ℕ) (n : ℕ) (o : Option (List ℕ)) → withFront xs (before n o) ≡ withFront (xs ++ (n ∷ [])) o
+unfolding before withFront
+front-more xs n none = refl
+front-more xs n (some ns) = rw (append-assoc xs (n ∷ []) ns)
+
+-- the first i numbers are read, the words up to a place: what is left decides
+pub record FirstRead (mosts : List ℕ) (ws : List (List ℕ)) (line cells out : List ℕ) (at i : ℕ) : Type 0 where
+  pub upto : i ≤ length mosts
+  pub within : at ≤ length line
+  pub size : length out ≡ length cells
+  pub reads : numbersOf mosts ws ≡ withFront (take i out) (numbersOf (drop i mosts) (behindWord (drop at line)))
+  pub small : (k : ℕ) → k < i → getD out k 0 ≤ getD mosts k 0
+
+pub read-begin : (mosts line cells : List ℕ) (end : ℕ) → end ≤ length line → FirstRead mosts (behindWord (drop end line)) line cells cells end 0
+read-begin mosts line cells end h = record {
+  upto = omega arith;
+  within = h;
+  size = refl;
+  reads = front-none (numbersOf mosts (behindWord (drop end line)));
+  small = λ k g. absurd (omega arith);
+}
+
+failed : {mosts : List ℕ} {o : Option (List ℕ)} {out : List ℕ} → o ≡ none → NumbersRead mosts o out false
+failed e = record { bad = λ _. e; good = λ h. not-both h refl; small = λ i h _. not-both h refl }
+
+module _ {mosts : List ℕ} {ws : List (List ℕ)} {line cells out : List ℕ} {at i : ℕ} (f : FirstRead mosts ws line cells out at i) where
+  pub word-missing : i < length mosts → at ≡ length line → NumbersRead mosts (numbersOf mosts ws) out false
+  unfolding numbersOf behindWord withFront
+  word-missing h e = failed (f .reads ∙ rw (drop-of-length-le line {i = at} (omega arith), drop-cons mosts i 0 h, numbersOf))
+
+  module _ (h : i < length mosts) (l : at < length line) (s : List ℕ) (e : s ≡ drop (at + 1) line) (size n : ℕ) (w : WordEnds s size)
+      (g : n ≡ orNone (numberOf (getD mosts i 0) (take size s))) where
+    pub number-missing : getD mosts i 0 < 4_294_967_296 → n ≡ 4_294_967_296 → NumbersRead mosts (numbersOf mosts ws) out false
+    unfolding numbersOf withFront
+    number-missing b k =
+        failed (f .reads ∙ rw (more-words line s at size l e w, drop-cons mosts i 0 h, numbersOf, is-none (getD mosts i 0) (take size s) b (sym g ∙ k)))
+
+    pub read-next : (n ≡ 4_294_967_296 → ⊥) → length mosts ≤ length cells → FirstRead mosts ws line cells (set out i n) (at + 1 + size) (i + 1)
+    unfolding numbersOf
+    read-next k m = record {
+      upto = omega arith;
+      within = omega (arith, w .within, ap length e, length-drop (at + 1) line);
+      size = length-set out i n ∙ f .size;
+      reads = f .reads ∙ rw (more-words line s at size l e w, drop-cons mosts i 0 h, numbersOf, is-number (getD mosts i 0) (take size s) n g k)
+          (front-more (take i out) n _ ∙ rw (add-one i, take-suc-set out i n (omega (arith, f .size))));
+      small = λ j b. go j b (ℕ-discrete j i);
+    }
+      where
+        go : (j : ℕ) → j < i + 1 → Dec (j ≡ i) → getD (set out i n) j 0 ≤ getD mosts j 0
+        go j b (yes z) = rw (z, getD-set-same out i n 0 (omega (arith, f .size))) (number-small (getD mosts i 0) (take size s) n g k)
+        go j b (no z) = rw (getD-set-other out i j n 0 z) (f .small j (omega arith))
+
+  -- every number is read: no word is to be left
+  pub read-end : length mosts ≤ i → NumbersRead mosts (numbersOf mosts ws) out (eqb at (length line))
+  unfolding numbersOf behindWord withFront
+  read-end h = go (eqb at (length line)) refl
+    where
+      n : i ≡ length mosts
+      n = omega (arith, f .upto)
+
+      go : (b : Bool) → eqb at (length line) ≡ b → NumbersRead mosts (numbersOf mosts ws) out b
+      go true e = record {
+        bad = λ z. not-both refl z;
+        good = λ _. f .reads ∙ rw (drop-of-length-le mosts {i = i} (omega arith), drop-of-length-le line {i = at} (omega (arith, eqb-true at (length line) e)), append-nil, n);
+        small = λ j _ b. f .small j (omega (arith, n));
+      }
+      go false e = failed (f .reads ∙ rw (drop-of-length-le mosts {i = i} (omega arith), left-over line at (omega (arith, f .within, eqb-false at (length line) e))))

@@ -1,9 +1,0 @@
--- The numbers of an answer line.
-use mathlib.Core.List.{List, [], _∷_, _++_}
-use Prim.Native.Nat.{ℕ}
-use Rattle.plan_rules.specs.Print.{decimal, numbers}
-
--- numbers with one space between
-unfoldable pub inRow : List ℕ → List ℕ
-inRow [] = []
-inRow (n ∷ ns) = decimal n ++ numbers ns
