@@ -1,4 +1,4 @@
-//! `spwd-compile`: the same bytes as the gate's maker, the way back, complaints, verdicts with their lines.
+//! `spwd-compile`: the bytes of each item, the way back, complaints, verdicts with their lines.
 
 mod common;
 
@@ -25,7 +25,7 @@ fn round_trip(file: &[u8]) {
 }
 
 #[test]
-fn every_plan_as_the_gate_makes_it() {
+fn every_plan_with_its_verdict() {
     for plan in plans("plans") {
         let ran = run(COMPILE, &[&plan], b"");
         assert_eq!(ran.out, bytes(&plan), "{plan}");
@@ -66,18 +66,37 @@ fn every_plan_in_hex() {
     }
 }
 
-/// Blanks, tabs, zeros in front, digits of both cases, comments: both makers read them alike.
+/// Every item, with blanks, tabs, zeros in front, digits of both cases and comments: the bytes as document 01 has them.
 #[test]
-fn odd_but_right() {
+fn every_item() {
     let text = b"# only a comment\n\n   node   007#x\n\trouter\t255 # \xc3\xa4 \xff\nlink 0 1 000000000000000000002\n\
-        path 1 2 3 4 5 6 7 8 9 10 11 12\nentry 1 64 0 9 9\nintervals 0 4294967295\nbytes 0a Fb FF 00\n   # end";
-    let file = root().join("target/odd-but-right.plan");
-    fs::create_dir_all(file.parent().unwrap()).unwrap();
-    fs::write(&file, text).unwrap();
-    let ran = run(COMPILE, &[file.to_str().unwrap()], b"");
-    assert_eq!(ran.out, bytes(file.to_str().unwrap()));
+        path 1 2 3 4 5 6 7 8 9 10 11 12\nentry 1 64 0 9 9\nintervals 66051 4294967295\nbytes 0a Fb FF 00\n   # end";
+    let ran = run(COMPILE, &["-"], text);
+    #[rustfmt::skip]
+    let file = [
+        1, 0, 2, 7, 0,
+        1, 0, 2, 255, 1,
+        2, 0, 3, 0, 1, 2,
+        3, 0, 12, 1, 2, 3, 4, 5, 6, 7, 8, 9, 10, 11, 12,
+        4, 0, 5, 1, 64, 0, 9, 9,
+        5, 0, 8, 0, 1, 2, 3, 255, 255, 255, 255,
+        10, 251, 255, 0,
+    ];
+    assert_eq!(ran.out, file);
     assert_eq!(ran.status, 2);
     round_trip(&ran.out);
+}
+
+/// A field of more than 255 bytes, whose length has two.
+#[test]
+fn a_long_path() {
+    let ran = run(
+        COMPILE,
+        &["-"],
+        format!("path{}", " 9".repeat(258)).as_bytes(),
+    );
+    assert_eq!(ran.out, [&[3, 1, 2], &[9; 258][..]].concat());
+    assert_eq!(ran.status, 2);
 }
 
 /// Lines that end as on Windows, and a byte order mark in front.

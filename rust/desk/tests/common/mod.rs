@@ -1,6 +1,7 @@
 //! Running the programs, and bytes by chance.
 #![allow(dead_code)]
 
+use desk::form::compile;
 use std::fs;
 use std::io::Write;
 use std::path::{Path, PathBuf};
@@ -70,11 +71,11 @@ pub fn plans(folder: &str) -> Vec<String> {
     plans
 }
 
-/// The bytes of a text form, by the gate's own maker.
+/// The bytes of a text form.
 pub fn bytes(plan: &str) -> Vec<u8> {
-    let made = run("plans/bytes", &[plan], b"");
-    assert_eq!((made.err.as_str(), made.status), ("", 0), "{plan}");
-    made.out
+    let text = fs::read(root().join(plan)).unwrap();
+    let compiled = compile(&text).unwrap_or_else(|complaints| panic!("{plan}: {complaints:?}"));
+    compiled.bytes
 }
 
 /// A generator of numbers, xorshift.
