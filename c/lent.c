@@ -42,7 +42,7 @@ static void events(struct plan p, uint64_t *run, uint8_t *last, spwd_watchdog *f
 static void write_out(struct plan p, uint32_t *answer) {
     for (size_t size = 0; size < 14000; size += 1 + size / 3) {
         uint8_t *out = room(size);
-        spwd_c_write_out(p.sets, p.ends, p.rows, p.reach, p.paths, p.spans, p.aims, p.numbers, out, size, answer);
+        spwd_c_write_out(p.sets, p.ends, p.rows, p.paths, p.spans, p.aims, p.numbers, out, size, answer);
         free(out);
     }
 }

@@ -184,9 +184,9 @@ void spwd_c_request(const uint8_t rows[8], const uint8_t spans[512], const uint6
 void spwd_c_reply(const uint8_t rows[8], const uint32_t numbers[6], uint64_t run[96], uint8_t initiator, uint16_t number,
                   uint8_t status, uint32_t answer[8]);
 void spwd_c_reading(const uint32_t numbers[6], spwd_watchdog *watchdog, uint32_t clock, uint32_t answer[8]);
-void spwd_c_write_out(const uint64_t sets[3], const uint8_t ends[128], const uint8_t rows[8], const uint64_t reach[8],
-                      const uint8_t paths[1408], const uint8_t spans[512], const uint64_t aims[512], const uint32_t numbers[6],
-                      uint8_t *out, size_t room, uint32_t answer[2]);
+void spwd_c_write_out(const uint64_t sets[3], const uint8_t ends[128], const uint8_t rows[8], const uint8_t paths[1408],
+                      const uint8_t spans[512], const uint64_t aims[512], const uint32_t numbers[6], uint8_t *out, size_t room,
+                      uint32_t answer[2]);
 size_t spwd_c_print(const uint32_t verdict[5], uint8_t line[40]);
 uint32_t spwd_c_is_blank(const uint64_t sets[3], const uint8_t ends[128], const uint8_t rows[8], const uint64_t reach[8],
                          const uint8_t paths[1408], const uint8_t spans[512], const uint64_t aims[512], const uint32_t numbers[6],
@@ -300,7 +300,7 @@ static inline spwd_written spwd_write_out(const spwd_box *box, uint8_t *out, siz
     uint8_t nothing[1] = {0};
     spwd_written written;
     uint32_t answer[2];
-    spwd_c_write_out(plan->sets, plan->ends, plan->rows, plan->reach, plan->paths, plan->spans, plan->aims, plan->numbers,
+    spwd_c_write_out(plan->sets, plan->ends, plan->rows, plan->paths, plan->spans, plan->aims, plan->numbers,
                      room == 0 ? nothing : out, room, answer);
     written.number = answer[0];
     written.size = answer[1];

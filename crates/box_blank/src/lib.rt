@@ -7,16 +7,8 @@ ghost use Rattle.rules_plan.specs.Plan.{blank};
 ghost use Rattle.memory_plan.specs.Memory as plan;
 ghost use Rattle.rules_box.specs.State.{cleared, watchdogCleared};
 ghost use Rattle.box_calls.specs.Box.{Holds};
-use memory_plan::layout::Aims;
-use memory_plan::layout::Ends;
-use memory_plan::layout::Numbers;
-use memory_plan::layout::Paths;
-use memory_plan::layout::Reach;
-use memory_plan::layout::Rows;
-use memory_plan::layout::Sets;
-use memory_plan::layout::Spans;
-use memory_run::layout::Last;
-use memory_run::layout::Run;
+use memory_plan::layout::*;
+use memory_run::layout::*;
 use rules_box::Watchdog;
 
 // Whether plan memory holds no plan.

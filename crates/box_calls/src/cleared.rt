@@ -2,10 +2,7 @@
 ghost use mathlib.Core.Path.{_≡_};
 ghost use lib.ListN.{replicate};
 ghost use Rattle.rules_box.specs.State.{watchdogCleared};
-use memory_run::layout::LAST;
-use memory_run::layout::Last;
-use memory_run::layout::RUN;
-use memory_run::layout::Run;
+use memory_run::layout::*;
 use rules_box::Watchdog;
 
 // Run memory of a clear.

@@ -3,16 +3,8 @@ ghost use Rattle.box_calls.specs.Calls.{memory, LoadLeaves};
 use crate::cleared::clear_run;
 use memory_plan::interval::greatest_interval;
 use memory_plan::interval::least_interval;
-use memory_plan::layout::Aims;
-use memory_plan::layout::Ends;
-use memory_plan::layout::Numbers;
-use memory_plan::layout::Paths;
-use memory_plan::layout::Reach;
-use memory_plan::layout::Rows;
-use memory_plan::layout::Sets;
-use memory_plan::layout::Spans;
-use memory_run::layout::Last;
-use memory_run::layout::Run;
+use memory_plan::layout::*;
+use memory_run::layout::*;
 use rules_box::Watchdog;
 use rules_plan::Verdict;
 

@@ -10,15 +10,8 @@ ghost use Rattle.rules_plan.specs.Canon.{planOf};
 ghost use Rattle.memory_plan.specs.Memory.{Holds};
 ghost use Rattle.load_plan.specs.Load.{left};
 ghost use Rattle.memory_plan.specs.Held.{Held};
-use memory_plan::layout::Aims;
-use memory_plan::layout::Ends;
-use memory_plan::layout::GREATEST;
-use memory_plan::layout::Numbers;
-use memory_plan::layout::Paths;
-use memory_plan::layout::Reach;
-use memory_plan::layout::Rows;
-use memory_plan::layout::Sets;
-use memory_plan::layout::Spans;
+use memory_plan::interval::is_loaded;
+use memory_plan::layout::*;
 
 // Whether two plan memories are equal.
 fn same_plan(
@@ -102,7 +95,7 @@ pub fn holds(
         other_aims,
         other_numbers,
     );
-    if other_numbers[GREATEST] == 0 {
+    if !is_loaded(other_numbers) {
         return false;
     }
     same_plan(

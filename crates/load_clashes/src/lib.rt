@@ -11,11 +11,7 @@ ghost use Rattle.rules_plan.specs.Verdict.{searchOf};
 ghost use Rattle.load_slot_links.specs.Lanes.{Searched};
 ghost use Rattle.load_clashes.specs.Clashes.{meets, leastCommon};
 use load_slot_links::lanes_in;
-use memory_plan::layout::Aims;
-use memory_plan::layout::Numbers;
-use memory_plan::layout::Paths;
-use memory_plan::layout::Rows;
-use memory_plan::layout::Spans;
+use memory_plan::layout::*;
 use rules_plan::Search;
 use rules_plan::Verdict;
 

@@ -13,17 +13,7 @@ ghost use Rattle.memory_plan.specs.Memory.{setsOf, rowsOf, reachOf, spansOf, ai
 ghost use Rattle.memory_plan.specs.Take.{itemFault, taken, entryItem};
 use load_items::several::gather;
 use memory_plan::at_most;
-use memory_plan::layout::Aims;
-use memory_plan::layout::ENTRIES;
-use memory_plan::layout::INITIATORS;
-use memory_plan::layout::NODES;
-use memory_plan::layout::Numbers;
-use memory_plan::layout::ROWS;
-use memory_plan::layout::Reach;
-use memory_plan::layout::Rows;
-use memory_plan::layout::SLOTS;
-use memory_plan::layout::Sets;
-use memory_plan::layout::Spans;
+use memory_plan::layout::*;
 use memory_plan::rows::row_among;
 
 // Verdict 6 of an entry, over being whether a target is over 63.

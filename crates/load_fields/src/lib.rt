@@ -18,15 +18,7 @@ use load_items::devices::device;
 use load_items::intervals::timing;
 use load_items::links::link;
 use load_paths::path;
-use memory_plan::layout::Aims;
-use memory_plan::layout::Ends;
-use memory_plan::layout::Numbers;
-use memory_plan::layout::Paths;
-use memory_plan::layout::Reach;
-use memory_plan::layout::Rows;
-use memory_plan::layout::SIZE;
-use memory_plan::layout::Sets;
-use memory_plan::layout::Spans;
+use memory_plan::layout::*;
 
 // What came of reading a file: the number of the first fault, 0 for none, and the offset of its field.
 pub struct Read {

@@ -4,9 +4,7 @@ ghost use Rattle.rules_plan.specs.Plan.{Plan};
 ghost use Rattle.rules_plan.specs.laws.Fair.{Fair};
 ghost use Rattle.memory_plan.specs.Memory.{setsOf};
 ghost use Rattle.memory_plan.specs.Take.{itemFault, taken, deviceItem};
-use memory_plan::layout::NODES;
-use memory_plan::layout::ROUTERS;
-use memory_plan::layout::Sets;
+use memory_plan::layout::*;
 
 // The verdict on the device, 0 for none, and then the sets have it.
 pub fn device(sets: &mut Sets, num: u8, kind: u8) -> u8

@@ -5,9 +5,7 @@ ghost use Prim.Native.Nat.{ℕ};
 ghost use Rattle.rules_plan.specs.Plan.{Plan};
 ghost use Rattle.memory_plan.specs.Memory.{numbersWith};
 ghost use Rattle.memory_plan.specs.Take.{itemFault, taken, timingItem};
-use memory_plan::layout::GREATEST;
-use memory_plan::layout::LEAST;
-use memory_plan::layout::Numbers;
+use memory_plan::layout::*;
 
 // The verdict on the intervals, 0 for none, and then the numbers have them. (A second pair is refused before, with 4.)
 pub fn timing(numbers: &mut Numbers, least: u32, greatest: u32) -> u8

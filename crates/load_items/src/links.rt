@@ -4,11 +4,7 @@ ghost use Rattle.rules_plan.specs.Plan.{Plan};
 ghost use Rattle.rules_plan.specs.laws.Fair.{Fair};
 ghost use Rattle.memory_plan.specs.Memory.{setsOf, endsOf};
 ghost use Rattle.memory_plan.specs.Take.{itemFault, taken, linkItem};
-use memory_plan::layout::Ends;
-use memory_plan::layout::LINKS;
-use memory_plan::layout::NODES;
-use memory_plan::layout::ROUTERS;
-use memory_plan::layout::Sets;
+use memory_plan::layout::*;
 
 // The verdict on the link, 0 for none, and then sets and ends have it.
 pub fn link(sets: &mut Sets, ends: &mut Ends, num: u8, one: u8, other: u8) -> u8

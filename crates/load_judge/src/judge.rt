@@ -7,14 +7,7 @@ ghost use Rattle.rules_plan.specs.Canon.{given};
 ghost use Rattle.memory_plan.specs.Memory.{Holds};
 use crate::whole::judge_whole;
 use load_fields::read_fields;
-use memory_plan::layout::Aims;
-use memory_plan::layout::Ends;
-use memory_plan::layout::Numbers;
-use memory_plan::layout::Paths;
-use memory_plan::layout::Reach;
-use memory_plan::layout::Rows;
-use memory_plan::layout::Sets;
-use memory_plan::layout::Spans;
+use memory_plan::layout::*;
 use rules_plan::Verdict;
 
 // Every verdict: memory, which holds no plan before, has the file's plan where the verdict is 0.

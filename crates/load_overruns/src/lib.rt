@@ -8,11 +8,7 @@ ghost use Rattle.rules_plan.specs.laws.Fair.{Fair};
 ghost use Rattle.memory_plan.specs.Memory.{rowsOf, spansOf, numbersWith};
 ghost use Rattle.rules_plan.specs.Verdict.{searchOf};
 ghost use Rattle.load_overruns.specs.Overruns.{runsOn, runsAt};
-use memory_plan::layout::INITIATORS;
-use memory_plan::layout::Numbers;
-use memory_plan::layout::Rows;
-use memory_plan::layout::SLOTS;
-use memory_plan::layout::Spans;
+use memory_plan::layout::*;
 use rules_plan::Search;
 use rules_plan::Verdict;
 

@@ -10,15 +10,7 @@ ghost use Rattle.memory_plan.specs.Memory.{setsOf, endsOf, rowsOf, reachOf, num
 ghost use Rattle.memory_plan.specs.Take.{itemFault, pathItem};
 ghost use Rattle.memory_plan.specs.Rows.{rowAmong};
 use load_walks::trace;
-use memory_plan::layout::Ends;
-use memory_plan::layout::LINKS;
-use memory_plan::layout::MOST_PATHS;
-use memory_plan::layout::NODES;
-use memory_plan::layout::Numbers;
-use memory_plan::layout::PATHS;
-use memory_plan::layout::Reach;
-use memory_plan::layout::Rows;
-use memory_plan::layout::Sets;
+use memory_plan::layout::*;
 
 // Verdict 6 of a path, over being whether a link is over 63.
 fn path_range(initiator: u8, target: u8, over: bool) -> bool
@@ -77,7 +69,7 @@ pub fn path_fault(
     if 8 <= row {
         return 9;
     }
-    if MOST_PATHS <= numbers[PATHS] {
+    if 128 <= numbers[PATHS] {
         return 9;
     }
     if !t.walk {

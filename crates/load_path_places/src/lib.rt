@@ -7,13 +7,7 @@ ghost use Rattle.lists.specs.Insert.{putIn};
 ghost use Rattle.rules_plan.specs.Plan.{nth};
 ghost use Rattle.memory_plan.specs.Rows.{rowAmong};
 ghost use Rattle.load_path_places.specs.Places.{rowPlace, ownRow, withRow, withCount, precedesAt, IsPlace};
-use memory_plan::layout::INITIATORS;
-use memory_plan::layout::Numbers;
-use memory_plan::layout::PATH;
-use memory_plan::layout::PATH_TARGET;
-use memory_plan::layout::Paths;
-use memory_plan::layout::Reach;
-use memory_plan::layout::Rows;
+use memory_plan::layout::*;
 
 // Makes a row for a new initiator, at its place among the first count rows, with no path yet; answers the row.
 fn insert_row(rows: &mut Rows, reach: &mut Reach, count: usize, initiator: u8) -> usize

@@ -14,15 +14,7 @@ ghost use Rattle.load_path_places.specs.Places.{withRow, IsPlace};
 use load_path_faults::path_fault;
 use load_path_places::own_row;
 use load_path_places::place_of;
-use memory_plan::layout::Ends;
-use memory_plan::layout::INITIATORS;
-use memory_plan::layout::Numbers;
-use memory_plan::layout::PATH;
-use memory_plan::layout::PATHS;
-use memory_plan::layout::Paths;
-use memory_plan::layout::Reach;
-use memory_plan::layout::Rows;
-use memory_plan::layout::Sets;
+use memory_plan::layout::*;
 use memory_plan::rows::row_among;
 
 // Moves the bytes from start to end eleven places on.

@@ -6,20 +6,7 @@ ghost use Rattle.rules_plan.specs.Judge.{judge};
 ghost use Rattle.memory_plan.specs.Memory.{Holds};
 ghost use Rattle.load_plan.specs.Load.{left};
 use load_judge::judge::judge_into;
-use memory_plan::layout::Aims;
-use memory_plan::layout::CELLS;
-use memory_plan::layout::ENDS;
-use memory_plan::layout::Ends;
-use memory_plan::layout::NUMBERS;
-use memory_plan::layout::Numbers;
-use memory_plan::layout::PATH_BYTES;
-use memory_plan::layout::Paths;
-use memory_plan::layout::ROWS;
-use memory_plan::layout::Reach;
-use memory_plan::layout::Rows;
-use memory_plan::layout::SETS;
-use memory_plan::layout::Sets;
-use memory_plan::layout::Spans;
+use memory_plan::layout::*;
 use rules_plan::Verdict;
 
 // Memory that holds no plan, whatever it held before.

@@ -8,17 +8,7 @@ ghost use Rattle.bitsets.specs.Set.{member, listed};
 ghost use Rattle.rules_plan.specs.Plan.{Plan};
 ghost use Rattle.load_slot_links.specs.Lanes.{coverPlace, linksAt, leadsOver, laneOf, lanesOf, Searched};
 use memory_plan::at_most;
-use memory_plan::layout::Aims;
-use memory_plan::layout::Numbers;
-use memory_plan::layout::PATH;
-use memory_plan::layout::PATH_COUNT;
-use memory_plan::layout::PATH_LINKS;
-use memory_plan::layout::PATH_TARGET;
-use memory_plan::layout::PATHS;
-use memory_plan::layout::Paths;
-use memory_plan::layout::Rows;
-use memory_plan::layout::SLOTS;
-use memory_plan::layout::Spans;
+use memory_plan::layout::*;
 
 // Where the entry of the row stands that covers the slot: 64 × row + its slot; 512 for none.
 fn covering(spans: &Spans, row: usize, slot: usize) -> usize

@@ -13,9 +13,7 @@ ghost use Rattle.rules_plan.specs.Judge.{over63};
 ghost use Rattle.rules_plan.specs.laws.Fair.{Fair};
 ghost use Rattle.memory_plan.specs.Memory.{setsOf, endsOf};
 use load_items::several::bit_of;
-use memory_plan::layout::Ends;
-use memory_plan::layout::ROUTERS;
-use memory_plan::layout::Sets;
+use memory_plan::layout::*;
 
 // What one pass over the links of a path tells: whether one is over 63, and, where none is, their set; and, where all are links of the plan,
 // whether they are a walk.

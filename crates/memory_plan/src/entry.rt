@@ -8,9 +8,7 @@ ghost use Rattle.rules_plan.specs.Plan.{Plan};
 ghost use Rattle.rules_plan.specs.Meaning.{entryAt, leastSpan};
 ghost use Rattle.rules_plan.specs.laws.Sound.{Sound};
 ghost use Rattle.memory_plan.specs.Memory.{ofRow, spanOf, spansOf, aimOf, aimsOf};
-use crate::layout::Aims;
-use crate::layout::SLOTS;
-use crate::layout::Spans;
+use crate::layout::*;
 
 // The span of the entry of a row at a slot, 0 where none stands there.
 pub fn span_at(spans: &Spans, row: usize, slot: u8) -> u8

@@ -1,19 +1,20 @@
 // Whether there is a plan, and its intervals.
 ghost use mathlib.Core.Path.{_≡_};
+ghost use mathlib.Core.Logic.{_≢_};
+ghost use mathlib.Core.Bool.{true, false};
 ghost use mathlib.Core.Option.{Option};
 ghost use Prim.Native.Nat.{ℕ};
 ghost use Rattle.lists.specs.Search.{isSome};
-ghost use Rattle.rules_plan.specs.Plan.{Plan};
+ghost use Rattle.rules_plan.specs.Plan.{nth, Plan};
 ghost use Rattle.rules_plan.specs.Meaning.{leastOf, greatestOf};
 ghost use Rattle.memory_plan.specs.Memory.{numbersWith};
 ghost use Rattle.memory_plan.specs.View.{Timed};
-use crate::layout::GREATEST;
-use crate::layout::LEAST;
-use crate::layout::Numbers;
+use crate::layout::*;
 
 // An accepted plan's greatest interval is 1 at least.
 pub fn is_loaded(numbers: &Numbers) -> bool
     ensures { λ r. ⌜ ((o : Option Plan) → Timed o (now (numbers .entry)) → r ≡ isSome o) ⌝ }
+    ensures { λ r. ⌜ (r ≡ false → nth (now (numbers .entry)) 1 ≡ 0) × (r ≡ true → nth (now (numbers .entry)) 1 ≢ 0) ⌝ }
 {
     numbers[GREATEST] != 0
 }

@@ -5,9 +5,7 @@ ghost use Rattle.rules_plan.specs.Plan.{Plan};
 ghost use Rattle.rules_plan.specs.laws.Sound.{Sound};
 ghost use Rattle.memory_plan.specs.Memory.{rowsOf, numbersWith};
 ghost use Rattle.memory_plan.specs.View.{rowFor};
-use crate::layout::INITIATORS;
-use crate::layout::Numbers;
-use crate::layout::Rows;
+use crate::layout::*;
 use crate::rows::row_among;
 
 // The row of initiator i, 8 where the plan has no such initiator.

@@ -6,8 +6,7 @@ ghost use Rattle.lists.specs.Numbers.{firstFrom};
 ghost use Rattle.rules_plan.specs.Plan.{nth};
 ghost use Rattle.memory_plan.specs.Rows.{rowAmong};
 use crate::at_most;
-use crate::layout::ROWS;
-use crate::layout::Rows;
+use crate::layout::*;
 
 // The first of all eight rows that has initiator i; 8 where none has it.
 fn first_row(rows: &Rows, i: u8) -> usize

@@ -9,7 +9,7 @@ use bitsets::has;
 use bitsets::least;
 use bitsets::union;
 use bitsets::without_least;
-use memory_plan::layout::Ends;
+use memory_plan::layout::*;
 use out_verdict::print::put;
 
 // The devices, by number.

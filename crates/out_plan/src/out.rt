@@ -1,30 +1,15 @@
 // Writing out: the plan in memory as a file again, its fields in canonical order, in a lent buffer.
 ghost use mathlib.Core.Path.{_≡_};
+ghost use mathlib.Core.List.{List};
 ghost use mathlib.Core.Option.{Option};
+ghost use Prim.Native.Nat.{ℕ};
 ghost use lib.ListN.{length};
 ghost use Rattle.rules_plan.specs.Plan.{Plan};
 ghost use Rattle.rules_plan.specs.Copy.{copyAnswer, copied};
 ghost use Rattle.memory_plan.specs.Held.{Held};
 use memory_plan::at_most;
-use memory_plan::layout::Aims;
-use memory_plan::layout::Ends;
-use memory_plan::layout::GREATEST;
-use memory_plan::layout::INITIATORS;
-use memory_plan::layout::LEAST;
-use memory_plan::layout::LINKS;
-use memory_plan::layout::MOST_PATHS;
-use memory_plan::layout::NODES;
-use memory_plan::layout::Numbers;
-use memory_plan::layout::PATHS;
-use memory_plan::layout::Paths;
-use memory_plan::layout::ROUTERS;
-use memory_plan::layout::ROWS;
-use memory_plan::layout::Reach;
-use memory_plan::layout::Rows;
-use memory_plan::layout::SIZE;
-use memory_plan::layout::SLOTS;
-use memory_plan::layout::Sets;
-use memory_plan::layout::Spans;
+use memory_plan::interval::is_loaded;
+use memory_plan::layout::*;
 use out_items::put_devices;
 use out_items::put_links;
 use out_items::put_timing;
@@ -37,19 +22,16 @@ pub fn write_out(
     sets: &Sets,
     ends: &Ends,
     rows: &Rows,
-    reach: &Reach,
     paths: &Paths,
     spans: &Spans,
     aims: &Aims,
     numbers: &Numbers,
     out: &mut [u8],
 ) -> Copied
-    ensures { λ r. ⌜ ((o : Option Plan) → Held o (now (sets .entry)) (now (ends .entry)) (now (rows .entry)) (now (reach .entry)) (now (paths .entry)) (now (spans .entry)) (now (aims .entry)) (now (numbers .entry)) →
+    ensures { λ r. ⌜ ((o : Option Plan) (reach : List ℕ) → Held o (now (sets .entry)) (now (ends .entry)) (now (rows .entry)) reach (now (paths .entry)) (now (spans .entry)) (now (aims .entry)) (now (numbers .entry)) →
         (r ≡ copyAnswer (length (now (out .entry))) o) × (now (out .exit) ≡ copied o (now (out .entry)))) ⌝ }
 {
-    let least = numbers[LEAST];
-    let greatest = numbers[GREATEST];
-    if greatest == 0 {
+    if !is_loaded(numbers) {
         return Copied::NotWritten { number: 20 };
     }
     // A plan has at most 13,643 bytes.
@@ -68,6 +50,6 @@ pub fn write_out(
         aims,
         SLOTS * at_most(numbers[INITIATORS], ROWS),
     );
-    put_timing(out, entries, least, greatest);
+    put_timing(out, entries, numbers[LEAST], numbers[GREATEST]);
     Copied::Written { size }
 }

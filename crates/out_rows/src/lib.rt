@@ -14,10 +14,7 @@ use bitsets::least;
 use bitsets::size;
 use bitsets::without_least;
 use file_field::field::wide;
-use memory_plan::layout::Aims;
-use memory_plan::layout::Paths;
-use memory_plan::layout::Rows;
-use memory_plan::layout::Spans;
+use memory_plan::layout::*;
 use out_verdict::print::put_bytes;
 
 // The links from a place of memory on, count of them. The loop says too that they are at most eight: the compiler then makes no loop for long copies.

@@ -6,7 +6,7 @@ ghost use Rattle.rules_box.specs.declared.Event.the-variants.{Reading};
 ghost use Rattle.rules_box.specs.State.{Box};
 ghost use Rattle.rules_box.specs.Step as rules;
 use memory_plan::interval::is_loaded;
-use memory_plan::layout::Numbers;
+use memory_plan::layout::*;
 use rules_box::Answer;
 use rules_box::Watchdog;
 use run_watchdog::watch::Stepped;

@@ -5,7 +5,7 @@ ghost use Rattle.rules_plan.specs.Plan.{Plan};
 ghost use Rattle.memory_plan.specs.View.{Timed};
 ghost use Rattle.run_requests.specs.NoRow.{noRow};
 use memory_plan::interval::is_loaded;
-use memory_plan::layout::Numbers;
+use memory_plan::layout::*;
 use rules_box::Answer;
 
 // 20 "no plan", 22 "not an initiator of the plan". Without a plan there are no rows: only where none is found is 20 told from 22.

@@ -9,10 +9,9 @@ ghost use Rattle.memory_run.specs.Row.{IsRun};
 ghost use Rattle.memory_run.specs.Memory.{Finds, Answers};
 use crate::ending::end_row;
 use crate::no_row::no_row;
-use memory_plan::layout::Numbers;
-use memory_plan::layout::Rows;
+use memory_plan::layout::*;
 use memory_plan::row::row_for;
-use memory_run::layout::ROW;
+use memory_run::layout::*;
 use rules_box::Answer;
 
 pub fn reply(

@@ -13,12 +13,9 @@ use crate::asking::ask_row;
 use crate::asking::may_start;
 use crate::no_row::no_row;
 use memory_plan::entry::least_span;
-use memory_plan::layout::Aims;
-use memory_plan::layout::Numbers;
-use memory_plan::layout::Rows;
-use memory_plan::layout::Spans;
+use memory_plan::layout::*;
 use memory_plan::row::row_for;
-use memory_run::layout::ROW;
+use memory_run::layout::*;
 use rules_box::Answer;
 
 // 24 "length over 4,096", 25 "no entry of this initiator permits the target …". What an entry permits is never longer: only where none does

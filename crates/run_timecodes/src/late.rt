@@ -15,7 +15,7 @@ ghost use Rattle.rules_box.specs.Records.{recordBytes, lateRecord};
 ghost use Rattle.rules_box.specs.laws.Fit.{FitSide};
 ghost use Rattle.memory_run.specs.Run.{rowOf, runOf};
 ghost use Rattle.memory_run.specs.Row.{IsRow, IsRun};
-use memory_run::layout::ROW;
+use memory_run::layout::*;
 use run_records::put_full;
 use run_turns::age_row;
 

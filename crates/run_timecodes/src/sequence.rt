@@ -9,7 +9,7 @@ ghost use Rattle.rules_box.specs.Refuse.{recordSize, mostRecords, refusal};
 ghost use Rattle.rules_box.specs.Turn.{inSequence};
 ghost use Rattle.memory_run.specs.Run.{lastOf};
 use memory_plan::interval::is_loaded;
-use memory_plan::layout::Numbers;
+use memory_plan::layout::*;
 
 // "The first after a load is in sequence; later ones are if v is one more than the last accepted value … modulo 64."
 pub fn in_sequence(last: u8, byte: u8) -> bool

@@ -8,16 +8,8 @@ ghost use Rattle.script_hex.specs.Hex.{decoded};
 ghost use Rattle.script_commands.specs.Script.{commandOf};
 ghost use Rattle.script_answers.specs.Texts.{overLongLine, Prints};
 ghost use Rattle.script_desk.specs.Replay.{fiveOf, kept, Loaded, Stepped, WrittenOut, Replied, Answers};
-use memory_plan::layout::Aims;
-use memory_plan::layout::Ends;
-use memory_plan::layout::Numbers;
-use memory_plan::layout::Paths;
-use memory_plan::layout::Reach;
-use memory_plan::layout::Rows;
-use memory_plan::layout::Sets;
-use memory_plan::layout::Spans;
-use memory_run::layout::Last;
-use memory_run::layout::Run;
+use memory_plan::layout::*;
+use memory_run::layout::*;
 use out_verdict::print::print_verdict;
 use out_verdict::print::put;
 use rules_box::Event;
@@ -207,7 +199,6 @@ fn write_out(
     sets: &Sets,
     ends: &Ends,
     rows: &Rows,
-    reach: &Reach,
     paths: &Paths,
     spans: &Spans,
     aims: &Aims,
@@ -216,8 +207,8 @@ fn write_out(
     out: &mut [u8; 65600],
 ) -> usize
     requires { ⌜ room ≤ 32_768 ⌝ }
-    ensures { λ r. ⌜ ((run last : List ℕ) → Answers (WrittenOut room
-        (memory (now (sets .entry)) (now (ends .entry)) (now (rows .entry)) (now (reach .entry)) (now (paths .entry)) (now (spans .entry)) (now (aims .entry)) (now (numbers .entry)) run last))
+    ensures { λ r. ⌜ ((reach run last : List ℕ) → Answers (WrittenOut room
+        (memory (now (sets .entry)) (now (ends .entry)) (now (rows .entry)) reach (now (paths .entry)) (now (spans .entry)) (now (aims .entry)) (now (numbers .entry)) run last))
         (now (out .entry)) (now (out .exit)) r) ⌝ }
 {
     let mut buffer = plan_room();
@@ -225,7 +216,6 @@ fn write_out(
         sets,
         ends,
         rows,
-        reach,
         paths,
         spans,
         aims,
@@ -370,7 +360,6 @@ pub fn answer(
                 sets,
                 ends,
                 rows,
-                reach,
                 paths,
                 spans,
                 aims,

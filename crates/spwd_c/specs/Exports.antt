@@ -65,10 +65,10 @@ pub record Readings (numbers : List ℕ) (w : Watchdog) (clock : ℕ) (w′ : Wa
   pub steps : Answered answer′ λ a.
       (rows spans aims run last records : List ℕ) → Steps rows spans aims numbers run last w records (Reading clock) a run last w′ records
 
--- `spwd_c_write_out`
-abbrev pub WritesOut : (sets ends rows reach paths spans aims numbers out out′ answer′ : List ℕ) → Type 0
-WritesOut sets ends rows reach paths spans aims numbers out out′ answer′ =
-    (o : Option Plan) → Held o sets ends rows reach paths spans aims numbers
+-- `spwd_c_write_out`. It is not lent `reach`, which it need not read.
+abbrev pub WritesOut : (sets ends rows paths spans aims numbers out out′ answer′ : List ℕ) → Type 0
+WritesOut sets ends rows paths spans aims numbers out out′ answer′ =
+    (o : Option Plan) (reach : List ℕ) → Held o sets ends rows reach paths spans aims numbers
     → (answer′ ≡ sizedNumbers (copyAnswer (length out) o)) × (out′ ≡ copied o out)
 
 -- `spwd_c_print`: the line of the verdict of these numbers; those of a verdict on a file are of no other verdict

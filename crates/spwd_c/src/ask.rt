@@ -3,16 +3,8 @@ ghost use Rattle.box_calls.specs.Calls.{memory};
 ghost use Rattle.spwd_c.specs.Exports.{IsBlank, HoldsIt};
 use box_blank::is_blank;
 use box_holds::holds;
-use memory_plan::layout::Aims;
-use memory_plan::layout::Ends;
-use memory_plan::layout::Numbers;
-use memory_plan::layout::Paths;
-use memory_plan::layout::Reach;
-use memory_plan::layout::Rows;
-use memory_plan::layout::Sets;
-use memory_plan::layout::Spans;
-use memory_run::layout::Last;
-use memory_run::layout::Run;
+use memory_plan::layout::*;
+use memory_run::layout::*;
 use rules_box::Watchdog;
 
 // Whether every number of memory and of the five is that of a clear, with the five numbers by value.

@@ -4,16 +4,8 @@ ghost use Rattle.spwd_c.specs.Exports.{Loads};
 use box_calls::clear::clear;
 use box_calls::load::load;
 use c_numbers::verdict::numbers_of;
-use memory_plan::layout::Aims;
-use memory_plan::layout::Ends;
-use memory_plan::layout::Numbers;
-use memory_plan::layout::Paths;
-use memory_plan::layout::Reach;
-use memory_plan::layout::Rows;
-use memory_plan::layout::Sets;
-use memory_plan::layout::Spans;
-use memory_run::layout::Last;
-use memory_run::layout::Run;
+use memory_plan::layout::*;
+use memory_run::layout::*;
 use rules_box::Watchdog;
 
 // The box of a clear, whatever memory held before.

@@ -1,11 +1,7 @@
 // The four events, as C calls them. "A refusal leaves state, buffers and watchdog numbers untouched and answers its number, all else 0."
 ghost use Rattle.spwd_c.specs.Exports.{TimeCodes, Requests, Replies, Readings, withTimes, reportedWhere};
-use memory_plan::layout::Aims;
-use memory_plan::layout::Numbers;
-use memory_plan::layout::Rows;
-use memory_plan::layout::Spans;
-use memory_run::layout::Last;
-use memory_run::layout::Run;
+use memory_plan::layout::*;
+use memory_run::layout::*;
 use rules_box::Watchdog;
 use run_events::reading::reading;
 use run_events::values::values_of;

@@ -2,14 +2,7 @@
 ghost use Rattle.spwd_c.specs.Exports.{Prints, WritesOut};
 use c_numbers::copied::sized_numbers;
 use c_numbers::verdict::verdict_of;
-use memory_plan::layout::Aims;
-use memory_plan::layout::Ends;
-use memory_plan::layout::Numbers;
-use memory_plan::layout::Paths;
-use memory_plan::layout::Reach;
-use memory_plan::layout::Rows;
-use memory_plan::layout::Sets;
-use memory_plan::layout::Spans;
+use memory_plan::layout::*;
 use out_plan::out::write_out;
 use out_verdict::print::print_verdict;
 
@@ -19,7 +12,6 @@ pub extern "C" fn spwd_c_write_out(
     sets: &Sets,
     ends: &Ends,
     rows: &Rows,
-    reach: &Reach,
     paths: &Paths,
     spans: &Spans,
     aims: &Aims,
@@ -27,9 +19,9 @@ pub extern "C" fn spwd_c_write_out(
     out: &mut [u8],
     answer: &mut [u32; 2],
 )
-    ensures { λ _. ⌜ WritesOut (now (sets .entry)) (now (ends .entry)) (now (rows .entry)) (now (reach .entry)) (now (paths .entry)) (now (spans .entry)) (now (aims .entry)) (now (numbers .entry)) (now (out .entry)) (now (out .exit)) (now (answer .exit)) ⌝ }
+    ensures { λ _. ⌜ WritesOut (now (sets .entry)) (now (ends .entry)) (now (rows .entry)) (now (paths .entry)) (now (spans .entry)) (now (aims .entry)) (now (numbers .entry)) (now (out .entry)) (now (out .exit)) (now (answer .exit)) ⌝ }
 {
-    let copied = write_out(sets, ends, rows, reach, paths, spans, aims, numbers, out);
+    let copied = write_out(sets, ends, rows, paths, spans, aims, numbers, out);
     *answer = sized_numbers(copied);
 }
 

@@ -10,12 +10,7 @@ use libc::STDERR_FILENO;
 use libc::STDIN_FILENO;
 use libc::STDOUT_FILENO;
 use load_plan::load::load;
-use memory_plan::layout::CELLS;
-use memory_plan::layout::ENDS;
-use memory_plan::layout::NUMBERS;
-use memory_plan::layout::PATH_BYTES;
-use memory_plan::layout::ROWS;
-use memory_plan::layout::SETS;
+use memory_plan::layout::*;
 use out_verdict::print::print_verdict;
 
 // How much of standard input came, and whether a read failed.

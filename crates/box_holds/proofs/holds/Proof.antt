@@ -1,4 +1,4 @@
--- `reread::holds` meets its contract: memory tells plans apart. Assumes nothing.
+-- `holds` meets its contract: memory tells plans apart. Assumes nothing.
 use borrow.Author.Needs.{needs}
 use Rattle.lists.specs.laws.Answers.{it-is-not}
 use Rattle.box_holds.proofs.Rereads.{refused, reread}
@@ -8,8 +8,8 @@ use Rattle.box_holds.proofs.holds.Tie as tie
 load-requires : tie.Need-load-requires
 load-requires c κs = search needs
 
-element-copy-out-if1 : tie.Need-element-copy-out-if1
-element-copy-out-if1 c = search needs
+is-loaded-requires : tie.Need-is-loaded-requires
+is-loaded-requires c κs = search needs
 
 returns : tie.Need-returns
 returns c =
@@ -26,4 +26,4 @@ returns-2 c =
     (reread _ m (c .same-plan .ensures) (s .if1 .left), m)
 
 pub holds-spec : {M : Type 1} → statement M
-holds-spec = tie.close (tie.spec load-requires element-copy-out-if1 returns same-plan-requires returns-2)
+holds-spec = tie.close (tie.spec load-requires is-loaded-requires returns same-plan-requires returns-2)

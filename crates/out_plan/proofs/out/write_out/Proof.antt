@@ -1,4 +1,4 @@
--- `writing::out::write_out` meets its contract: memory with an interval of 0 holds no plan, and of a plan the five kinds of fields are put one behind
+-- `write_out` meets its contract: memory with an interval of 0 holds no plan, and of a plan the five kinds of fields are put one behind
 -- the other. Assumes nothing.
 use borrow.Author.Needs.{needs}
 use Rattle.out_plan.specs.laws.Parts.{out-puts}
@@ -6,11 +6,8 @@ use Rattle.out_plan.specs.laws.Written.{refuses-20, refuses-30, writes}
 use Rattle.out_plan.proofs.out.write_out.Statement.{statement}
 use Rattle.out_plan.proofs.out.write_out.Tie as tie
 
-element-copy-out-least : tie.Need-element-copy-out-least
-element-copy-out-least c = search needs
-
-element-copy-out-greatest : tie.Need-element-copy-out-greatest
-element-copy-out-greatest c = search needs
+is-loaded-requires : tie.Need-is-loaded-requires
+is-loaded-requires c κs = search needs
 
 returns : tie.Need-returns
 returns c = let a = c .before .before .before .before .args in refuses-20 (a .sets .now) (a .ends .now) (a .rows .now) (a .reach .now) (a .paths .now) (a .spans .now) (a .aims .now) (a .numbers .now) (a .out .now) (c .if1 .taken)
@@ -63,6 +60,12 @@ mul-put-entries c = search needs
 put-entries-requires : tie.Need-put-entries-requires
 put-entries-requires c κs = search needs
 
+element-copy-out-put-timing : tie.Need-element-copy-out-put-timing
+element-copy-out-put-timing c = search needs
+
+element-copy-out-put-timing-2 : tie.Need-element-copy-out-put-timing-2
+element-copy-out-put-timing-2 c = search needs
+
 put-timing-requires : tie.Need-put-timing-requires
 put-timing-requires c κs = search needs
 
@@ -86,8 +89,7 @@ pub write-out-spec : {M : Type 1} → statement M
 write-out-spec =
     tie.close
     (tie.spec
-    element-copy-out-least
-    element-copy-out-greatest
+    is-loaded-requires
     returns
     element-copy-out-size
     cast-size
@@ -105,6 +107,8 @@ write-out-spec =
     at-most-requires-2
     mul-put-entries
     put-entries-requires
+    element-copy-out-put-timing
+    element-copy-out-put-timing-2
     put-timing-requires
     same-length
     returns-3)

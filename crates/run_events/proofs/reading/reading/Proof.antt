@@ -12,7 +12,7 @@ is-loaded-requires c κs = search needs
 returns : tie.Need-returns
 returns c =
     let a = c .before .before .args in
-    λ b t room. no-plan room b (a .w) (a .clock) (sym (c .before .is-loaded .ensures (b .plan) t) ∙ not-true _ (c .if1 .taken))
+    λ b t room. no-plan room b (a .w) (a .clock) (sym (c .before .is-loaded .ensures .0 (b .plan) t) ∙ not-true _ (c .if1 .taken))
 
 is-overdue-requires : tie.Need-is-overdue-requires
 is-overdue-requires c κs = search needs
@@ -25,7 +25,7 @@ returns-2 c =
     let d = c .before .before .before in
     let a = d .before .before .args in
     λ b t room.
-    overdue room b (a .w) (a .clock) (sym (d .before .is-loaded .ensures (b .plan) t) ∙ not-false _ (d .if1 .left))
+    overdue room b (a .w) (a .clock) (sym (d .before .is-loaded .ensures .0 (b .plan) t) ∙ not-false _ (d .if1 .left))
     (sym (c .before .before .is-overdue .ensures) ∙ c .before .if2 .taken) (c .told-of .result) (c .told-of .ensures)
 
 returns-3 : tie.Need-returns-3
@@ -33,7 +33,7 @@ returns-3 c =
     let d = c .before .before in
     let a = d .before .before .args in
     λ b t room.
-    in-time room b (a .w) (a .clock) (sym (d .before .is-loaded .ensures (b .plan) t) ∙ not-false _ (d .if1 .left))
+    in-time room b (a .w) (a .clock) (sym (d .before .is-loaded .ensures .0 (b .plan) t) ∙ not-false _ (d .if1 .left))
     (sym (c .before .is-overdue .ensures) ∙ c .if2 .left)
 
 pub reading-spec : {M : Type 1} → statement M

@@ -11,11 +11,11 @@ is-loaded-requires c κs = search needs
 
 returns : tie.Need-returns
 unfolding noRow
-returns c = λ o t. rw (sym (c .before .is-loaded .ensures o t) ∙ not-true _ (c .if1 .taken))
+returns c = λ o t. rw (sym (c .before .is-loaded .ensures .0 o t) ∙ not-true _ (c .if1 .taken))
 
 returns-2 : tie.Need-returns-2
 unfolding noRow
-returns-2 c = λ o t. rw (sym (c .before .is-loaded .ensures o t) ∙ not-false _ (c .if1 .left))
+returns-2 c = λ o t. rw (sym (c .before .is-loaded .ensures .0 o t) ∙ not-false _ (c .if1 .left))
 
 pub no-row-spec : {M : Type 1} → statement M
 no-row-spec = tie.close (tie.spec is-loaded-requires returns returns-2)

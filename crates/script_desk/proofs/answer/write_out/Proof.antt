@@ -18,20 +18,20 @@ write-out-requires : tie.Need-write-out-requires
 write-out-requires c κs = search needs
 
 array-share-prefix-buffer : tie.Need-array-share-prefix-buffer
-array-share-prefix-buffer c = let s = c .before .before in let b = s .before .before in back-within 32_768 (b .plan-room .ensures) (b .before .pre) (s .write-out .last .1 .1 .1 .1 .1 .1 .1 .1 .0) (s .write-out .kept .1 .1 .1 .1 .1 .1 .1 .1 .0)
+array-share-prefix-buffer c = let s = c .before .before in let b = s .before .before in back-within 32_768 (b .plan-room .ensures) (b .before .pre) (s .write-out .last .1 .1 .1 .1 .1 .1 .1 .0) (s .write-out .kept .1 .1 .1 .1 .1 .1 .1 .0)
 
 slice-aggregate-put-copied : tie.Need-slice-aggregate-put-copied
-slice-aggregate-put-copied c = let s = c .before .before .before in let b = s .before .before in back-size 32_768 (b .plan-room .ensures) (b .before .pre) (s .write-out .last .1 .1 .1 .1 .1 .1 .1 .1 .0) (s .write-out .kept .1 .1 .1 .1 .1 .1 .1 .1 .0)
+slice-aggregate-put-copied c = let s = c .before .before .before in let b = s .before .before in back-size 32_768 (b .plan-room .ensures) (b .before .pre) (s .write-out .last .1 .1 .1 .1 .1 .1 .1 .0) (s .write-out .kept .1 .1 .1 .1 .1 .1 .1 .0)
 
 put-copied-requires : tie.Need-put-copied-requires
-put-copied-requires c κs = let s = c .before .before .before in let b = s .before .before in back-most 32_768 (b .plan-room .ensures) (b .before .pre) (s .write-out .last .1 .1 .1 .1 .1 .1 .1 .1 .0) (s .write-out .kept .1 .1 .1 .1 .1 .1 .1 .1 .0)
+put-copied-requires c κs = let s = c .before .before .before in let b = s .before .before in back-most 32_768 (b .plan-room .ensures) (b .before .pre) (s .write-out .last .1 .1 .1 .1 .1 .1 .1 .0) (s .write-out .kept .1 .1 .1 .1 .1 .1 .1 .0)
 
 returns : tie.Need-returns
 returns c =
     let s = c .before .before .before .before in
     let b = s .before .before in
-    λ run last.
-    out-answers _ _ _ _ _ _ _ _ run last (b .plan-room .ensures) (b .before .pre) (s .write-out .kept .1 .1 .1 .1 .1 .1 .1 .1 .0) (s .write-out .ensures) (c .put-copied .ensures)
+    λ reach run last.
+    out-answers _ _ _ reach _ _ _ _ run last (b .plan-room .ensures) (b .before .pre) (s .write-out .kept .1 .1 .1 .1 .1 .1 .1 .0) (λ o. s .write-out .ensures o reach) (c .put-copied .ensures)
 
 pub write-out-spec : {M : Type 1} → statement M
 write-out-spec =

@@ -15,8 +15,8 @@ same-length : tie.Need-same-length
 same-length c = search needs
 
 returns : tie.Need-returns
-returns c = λ o held.
-    let w = c .before .before .before .write-out .ensures o held in
+returns c = λ o reach held.
+    let w = c .before .before .before .write-out .ensures o reach held in
     (c .sized-numbers .ensures ∙ ap sizedNumbers (w .0), w .1)
 
 pub spwd-c-write-out-spec : {M : Type 1} → statement M
