@@ -7,6 +7,8 @@ ghost use Rattle.rules_plan.specs.Plan.{blank};
 ghost use Rattle.memory_plan.specs.Memory as plan;
 ghost use Rattle.rules_box.specs.State.{cleared, watchdogCleared};
 ghost use Rattle.box_calls.specs.Box.{Holds};
+ghost use Rattle.memory_plan.specs.Lent.{atEntry};
+ghost use Rattle.box_calls.specs.Calls.{At, lentIn};
 use memory_plan::layout::*;
 use memory_run::layout::*;
 use rules_box::Watchdog;
@@ -22,7 +24,7 @@ fn plan_blank(
     aims: &Aims,
     numbers: &Numbers,
 ) -> bool
-    ensures { λ r. ⌜ (r ≡ true) ↔ plan.Holds blank (now (sets .entry)) (now (ends .entry)) (now (rows .entry)) (now (reach .entry)) (now (paths .entry)) (now (spans .entry)) (now (aims .entry)) (now (numbers .entry)) ⌝ }
+    ensures { λ r. ⌜ (r ≡ true) ↔ atEntry (plan.Holds blank) sets ends rows reach paths spans aims numbers ⌝ }
 {
     if !lists::words::zero(sets) {
         return false;
@@ -90,7 +92,7 @@ pub fn is_blank(
     last: &Last,
     watchdog: Watchdog,
 ) -> bool
-    ensures { λ r. ⌜ (r ≡ true) ↔ ((watchdog ≡ watchdogCleared) × Holds cleared (now (sets .entry)) (now (ends .entry)) (now (rows .entry)) (now (reach .entry)) (now (paths .entry)) (now (spans .entry)) (now (aims .entry)) (now (numbers .entry)) (now (run .entry)) (now (last .entry))) ⌝ }
+    ensures { λ r. ⌜ (r ≡ true) ↔ ((watchdog ≡ watchdogCleared) × At (lentIn sets ends rows reach paths spans aims numbers run last) cleared) ⌝ }
 {
     if !plan_blank(sets, ends, rows, reach, paths, spans, aims, numbers) {
         return false;

@@ -3,8 +3,10 @@ use mathlib.Core.Path.{_≡_}
 use Prim.Native.Nat.{ℕ}
 use mathlib.Core.List.{List, [], _∷_}
 use lib.ListN.{length}
+use denote.Ref.{now}
 use Rattle.rules_plan.specs.declared.Verdict.{Verdict}
 use Rattle.rules_plan.specs.Judge.{judge}
+use Rattle.memory_plan.specs.Lent.{Array, atEntry, atExit}
 use Rattle.rules_box.specs.declared.Event.{Event}
 use Rattle.rules_box.specs.declared.Answer.{Answer}
 use Rattle.rules_box.specs.declared.Watchdog.{Watchdog}
@@ -40,6 +42,13 @@ memory sets′ ends′ rows′ reach′ paths′ spans′ aims′ numbers′ run
   run = run′;
   last = last′;
 }
+
+-- memory as a contract names it: what it holds when a function is called, and when it returns
+abbrev pub lentIn : (sets ends rows reach paths spans aims numbers run last : Array) → Memory
+lentIn sets ends rows reach paths spans aims numbers run last = atEntry memory sets ends rows reach paths spans aims numbers (now (run .entry)) (now (last .entry))
+
+abbrev pub leftIn : (sets ends rows reach paths spans aims numbers run last : Array) → Memory
+leftIn sets ends rows reach paths spans aims numbers run last = atExit memory sets ends rows reach paths spans aims numbers (now (run .exit)) (now (last .exit))
 
 -- memory holds the box, every number of it
 abbrev pub At : Memory → Box → Type 0

@@ -1,5 +1,5 @@
 // "Clear. The state is then the one before any load, every number of it."
-ghost use Rattle.box_calls.specs.Calls.{memory, ClearLeaves};
+ghost use Rattle.box_calls.specs.Calls.{ClearLeaves, leftIn};
 use crate::cleared::clear_run;
 use crate::cleared::cleared_watchdog;
 use memory_plan::layout::*;
@@ -19,7 +19,7 @@ pub fn clear(
     run: &mut Run,
     last: &mut Last,
 ) -> Watchdog
-    ensures { λ r. ⌜ ClearLeaves (memory (now (sets .exit)) (now (ends .exit)) (now (rows .exit)) (now (reach .exit)) (now (paths .exit)) (now (spans .exit)) (now (aims .exit)) (now (numbers .exit)) (now (run .exit)) (now (last .exit))) r ⌝ }
+    ensures { λ r. ⌜ ClearLeaves (leftIn sets ends rows reach paths spans aims numbers run last) r ⌝ }
 {
     load_plan::load::clear(sets, ends, rows, reach, paths, spans, aims, numbers);
     clear_run(run, last);

@@ -1,5 +1,5 @@
 // "Load. … A refused load leaves the state of a clear … An accepted load replaces everything".
-ghost use Rattle.box_calls.specs.Calls.{memory, LoadLeaves};
+ghost use Rattle.box_calls.specs.Calls.{LoadLeaves, leftIn};
 use crate::cleared::clear_run;
 use memory_plan::interval::greatest_interval;
 use memory_plan::interval::least_interval;
@@ -28,7 +28,7 @@ pub fn load(
     run: &mut Run,
     last: &mut Last,
 ) -> Loaded
-    ensures { λ r. ⌜ LoadLeaves (now (file .entry)) (r .verdict) (memory (now (sets .exit)) (now (ends .exit)) (now (rows .exit)) (now (reach .exit)) (now (paths .exit)) (now (spans .exit)) (now (aims .exit)) (now (numbers .exit)) (now (run .exit)) (now (last .exit))) (r .watchdog) ⌝ }
+    ensures { λ r. ⌜ LoadLeaves (now (file .entry)) (r .verdict) (leftIn sets ends rows reach paths spans aims numbers run last) (r .watchdog) ⌝ }
 {
     let verdict = load_plan::load::load(file, sets, ends, rows, reach, paths, spans, aims, numbers);
     clear_run(run, last);

@@ -10,6 +10,7 @@ ghost use Rattle.rules_plan.specs.Canon.{planOf};
 ghost use Rattle.memory_plan.specs.Memory.{Holds};
 ghost use Rattle.load_plan.specs.Load.{left};
 ghost use Rattle.memory_plan.specs.Held.{Held};
+ghost use Rattle.memory_plan.specs.Lent.{atEntry, atExit};
 use memory_plan::interval::is_loaded;
 use memory_plan::layout::*;
 
@@ -80,9 +81,9 @@ pub fn holds(
     other_aims: &mut Aims,
     other_numbers: &mut Numbers,
 ) -> bool
-    ensures { λ r. ⌜ ((o : Option Plan) → Held o (now (sets .entry)) (now (ends .entry)) (now (rows .entry)) (now (reach .entry)) (now (paths .entry)) (now (spans .entry)) (now (aims .entry)) (now (numbers .entry)) →
+    ensures { λ r. ⌜ ((o : Option Plan) → atEntry (Held o) sets ends rows reach paths spans aims numbers →
         (r ≡ true) ↔ ((number (judge (now (file .entry))) ≡ 0) × (o ≡ some (planOf (now (file .entry)))))) ⌝ }
-    ensures { λ r. ⌜ Holds (left (now (file .entry))) (now («other_sets» .exit)) (now («other_ends» .exit)) (now («other_rows» .exit)) (now («other_reach» .exit)) (now («other_paths» .exit)) (now («other_spans» .exit)) (now («other_aims» .exit)) (now («other_numbers» .exit)) ⌝ }
+    ensures { λ r. ⌜ atExit (Holds (left (now (file .entry)))) «other_sets» «other_ends» «other_rows» «other_reach» «other_paths» «other_spans» «other_aims» «other_numbers» ⌝ }
 {
     load_plan::load::load(
         file,

@@ -9,10 +9,11 @@ ghost use Rattle.rules_plan.specs.Fields.{lengthAllowed, itemOf};
 ghost use Rattle.rules_plan.specs.laws.Fair.{Fair};
 ghost use Rattle.memory_plan.specs.Memory.{HoldsSized, Holds};
 ghost use Rattle.load_fields.specs.Fields.{Awaits, Takes, ReadIn};
+ghost use Rattle.memory_plan.specs.Lent.{atEntry, atExit};
+use bytes_get::four_at;
+use bytes_get::part;
 use file_field::field::Head;
-use file_field::field::four_at;
 use file_field::field::head_at;
-use file_field::field::part;
 use load_entries::entry;
 use load_items::devices::device;
 use load_items::intervals::timing;
@@ -41,8 +42,8 @@ fn take_item(
 ) -> u8
     requires { ⌜ lengthAllowed tag (length (now content)) ≡ true ⌝ }
     ensures { λ r. ⌜ ((size : ℕ) (p : Plan) (x : Item) → Fair p → Awaits p tag → itemOf tag (now (content .entry)) ≡ some x →
-        HoldsSized size p (now (sets .entry)) (now (ends .entry)) (now (rows .entry)) (now (reach .entry)) (now (paths .entry)) (now (spans .entry)) (now (aims .entry)) (now (numbers .entry)) →
-        Takes size p x r (now (sets .exit)) (now (ends .exit)) (now (rows .exit)) (now (reach .exit)) (now (paths .exit)) (now (spans .exit)) (now (aims .exit)) (now (numbers .exit))) ⌝ }
+        atEntry (HoldsSized size p) sets ends rows reach paths spans aims numbers →
+        atExit (Takes size p x r) sets ends rows reach paths spans aims numbers) ⌝ }
 {
     match tag {
         1 => device(sets, content[0], content[1]),
@@ -88,7 +89,7 @@ pub fn read_fields(
 ) -> Read
     requires { ⌜ length (now file) ≤ 16384 ⌝ }
     requires { ⌜ Holds blank (now sets) (now ends) (now rows) (now reach) (now paths) (now spans) (now aims) (now numbers) ⌝ }
-    ensures { λ r. ⌜ ReadIn (now (file .entry)) (r .number) (r .at) (now (sets .exit)) (now (ends .exit)) (now (rows .exit)) (now (reach .exit)) (now (paths .exit)) (now (spans .exit)) (now (aims .exit)) (now (numbers .exit)) ⌝ }
+    ensures { λ r. ⌜ atExit (ReadIn (now (file .entry)) (r .number) (r .at)) sets ends rows reach paths spans aims numbers ⌝ }
 {
     let mut at: usize = 0;
     let mut before: u8 = 0;

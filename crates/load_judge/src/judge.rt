@@ -5,6 +5,7 @@ ghost use Rattle.rules_plan.specs.Verdict.{number};
 ghost use Rattle.rules_plan.specs.Judge.{judge};
 ghost use Rattle.rules_plan.specs.Canon.{given};
 ghost use Rattle.memory_plan.specs.Memory.{Holds};
+ghost use Rattle.memory_plan.specs.Lent.{atExit};
 use crate::whole::judge_whole;
 use load_fields::read_fields;
 use memory_plan::layout::*;
@@ -23,7 +24,7 @@ pub fn judge_into(
     numbers: &mut Numbers,
 ) -> Verdict
     requires { ⌜ Holds blank (now sets) (now ends) (now rows) (now reach) (now paths) (now spans) (now aims) (now numbers) ⌝ }
-    ensures { λ r. ⌜ (r ≡ judge (now (file .entry))) × (number r ≡ 0 → Holds (given (now (file .entry))) (now (sets .exit)) (now (ends .exit)) (now (rows .exit)) (now (reach .exit)) (now (paths .exit)) (now (spans .exit)) (now (aims .exit)) (now (numbers .exit))) ⌝ }
+    ensures { λ r. ⌜ (r ≡ judge (now (file .entry))) × (number r ≡ 0 → atExit (Holds (given (now (file .entry)))) sets ends rows reach paths spans aims numbers) ⌝ }
 {
     if 16384 < file.len() {
         return Verdict::Faulty {

@@ -5,6 +5,7 @@ ghost use Rattle.rules_plan.specs.Verdict.{number};
 ghost use Rattle.rules_plan.specs.Judge.{judge};
 ghost use Rattle.memory_plan.specs.Memory.{Holds};
 ghost use Rattle.load_plan.specs.Load.{left};
+ghost use Rattle.memory_plan.specs.Lent.{atExit};
 use load_judge::judge::judge_into;
 use memory_plan::layout::*;
 use rules_plan::Verdict;
@@ -20,7 +21,7 @@ pub fn clear(
     aims: &mut Aims,
     numbers: &mut Numbers,
 )
-    ensures { λ _. ⌜ Holds blank (now (sets .exit)) (now (ends .exit)) (now (rows .exit)) (now (reach .exit)) (now (paths .exit)) (now (spans .exit)) (now (aims .exit)) (now (numbers .exit)) ⌝ }
+    ensures { λ _. ⌜ atExit (Holds blank) sets ends rows reach paths spans aims numbers ⌝ }
 {
     *sets = [0u64; SETS];
     *ends = [0u8; ENDS];
@@ -66,7 +67,7 @@ pub fn load(
     aims: &mut Aims,
     numbers: &mut Numbers,
 ) -> Verdict
-    ensures { λ r. ⌜ (r ≡ judge (now (file .entry))) × Holds (left (now (file .entry))) (now (sets .exit)) (now (ends .exit)) (now (rows .exit)) (now (reach .exit)) (now (paths .exit)) (now (spans .exit)) (now (aims .exit)) (now (numbers .exit)) ⌝ }
+    ensures { λ r. ⌜ (r ≡ judge (now (file .entry))) × atExit (Holds (left (now (file .entry)))) sets ends rows reach paths spans aims numbers ⌝ }
 {
     clear(sets, ends, rows, reach, paths, spans, aims, numbers);
     let verdict = judge_into(file, sets, ends, rows, reach, paths, spans, aims, numbers);

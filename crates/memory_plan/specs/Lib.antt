@@ -4,3 +4,4 @@ pub mod Take
 pub mod laws
 pub mod Rows
 pub mod View
+pub mod Lent

@@ -9,8 +9,8 @@ use bitsets::has;
 use bitsets::least;
 use bitsets::union;
 use bitsets::without_least;
+use bytes_put::put;
 use memory_plan::layout::*;
-use out_verdict::print::put;
 
 // The devices, by number.
 pub fn put_devices(out: &mut [u8], at: usize, nodes: u64, routers: u64) -> usize

@@ -13,9 +13,9 @@ ghost use Rattle.out_rows.specs.Out.{linksFrom, pathBytes, rises, entryB
 use bitsets::least;
 use bitsets::size;
 use bitsets::without_least;
-use file_field::field::wide;
+use bytes_get::wide;
+use bytes_put::put_bytes;
 use memory_plan::layout::*;
-use out_verdict::print::put_bytes;
 
 // The links from a place of memory on, count of them. The loop says too that they are at most eight: the compiler then makes no loop for long copies.
 fn put_links(out: &mut [u8], at: usize, paths: &Paths, start: usize, count: usize) -> usize

@@ -1,12 +1,12 @@
 // The lines that are in the input buffer answered, and the answers gathered in an output buffer.
-ghost use Rattle.box_calls.specs.Calls.{memory};
+ghost use Rattle.box_calls.specs.Calls.{lentIn, leftIn};
 ghost use Rattle.replay.specs.Gather.{Flushed, Roomy, Gathers, Passes, Ends, Answered};
 use crate::lines::find_newline;
-use file_field::field::part;
+use bytes_get::part;
+use bytes_put::put;
 use libc::STDOUT_FILENO;
 use memory_plan::layout::*;
 use memory_run::layout::*;
-use out_verdict::print::put;
 use rules_box::Watchdog;
 use script_desk::answer::answer;
 use script_desk::answer::over_long;
@@ -72,7 +72,7 @@ fn answer_line(
     text: &mut [u8; 65600],
     out: &mut [u8],
 ) -> Desk
-    ensures { λ r. ⌜ Gathers (now (line .entry)) d (memory (now (sets .entry)) (now (ends .entry)) (now (rows .entry)) (now (reach .entry)) (now (paths .entry)) (now (spans .entry)) (now (aims .entry)) (now (numbers .entry)) (now (run .entry)) (now (last .entry))) (now (out .entry)) r (memory (now (sets .exit)) (now (ends .exit)) (now (rows .exit)) (now (reach .exit)) (now (paths .exit)) (now (spans .exit)) (now (aims .exit)) (now (numbers .exit)) (now (run .exit)) (now (last .exit))) (now (out .exit)) ⌝ }
+    ensures { λ r. ⌜ Gathers (now (line .entry)) d (lentIn sets ends rows reach paths spans aims numbers run last) (now (out .entry)) r (leftIn sets ends rows reach paths spans aims numbers run last) (now (out .exit)) ⌝ }
 {
     let count = std::num::wrapping_add_u64(d.count, 1);
     let five = d.watchdog;
@@ -144,7 +144,7 @@ pub fn end_line(
     text: &mut [u8; 65600],
     out: &mut [u8],
 ) -> Desk
-    ensures { λ r. ⌜ Ends (now (line .entry)) d (memory (now (sets .entry)) (now (ends .entry)) (now (rows .entry)) (now (reach .entry)) (now (paths .entry)) (now (spans .entry)) (now (aims .entry)) (now (numbers .entry)) (now (run .entry)) (now (last .entry))) (now (out .entry)) r (memory (now (sets .exit)) (now (ends .exit)) (now (rows .exit)) (now (reach .exit)) (now (paths .exit)) (now (spans .exit)) (now (aims .exit)) (now (numbers .exit)) (now (run .exit)) (now (last .exit))) (now (out .exit)) ⌝ }
+    ensures { λ r. ⌜ Ends (now (line .entry)) d (lentIn sets ends rows reach paths spans aims numbers run last) (now (out .entry)) r (leftIn sets ends rows reach paths spans aims numbers run last) (now (out .exit)) ⌝ }
 {
     if d.passing {
         let watchdog = d.watchdog;
@@ -198,7 +198,7 @@ pub fn answer_lines(
     text: &mut [u8; 65600],
     out: &mut [u8],
 ) -> Rest
-    ensures { λ r. ⌜ Answered (now (input .entry)) desk (memory (now (sets .entry)) (now (ends .entry)) (now (rows .entry)) (now (reach .entry)) (now (paths .entry)) (now (spans .entry)) (now (aims .entry)) (now (numbers .entry)) (now (run .entry)) (now (last .entry))) (now (out .entry)) (r .start) (r .desk) (memory (now (sets .exit)) (now (ends .exit)) (now (rows .exit)) (now (reach .exit)) (now (paths .exit)) (now (spans .exit)) (now (aims .exit)) (now (numbers .exit)) (now (run .exit)) (now (last .exit))) (now (out .exit)) ⌝ }
+    ensures { λ r. ⌜ Answered (now (input .entry)) desk (lentIn sets ends rows reach paths spans aims numbers run last) (now (out .entry)) (r .start) (r .desk) (leftIn sets ends rows reach paths spans aims numbers run last) (now (out .exit)) ⌝ }
 {
     let mut d = desk;
     let mut start = 0;

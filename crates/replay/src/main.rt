@@ -3,14 +3,14 @@
 ghost use mathlib.Core.Path.{_≡_};
 ghost use Prim.Native.Nat.{_≤_};
 ghost use lib.ListN.{length, replicate};
-ghost use Rattle.box_calls.specs.Calls.{memory};
+ghost use Rattle.box_calls.specs.Calls.{lentIn, leftIn};
 ghost use Rattle.replay.specs.Gather.{Taken};
 use answers::Desk;
 use answers::answer_lines;
 use answers::end_line;
 use answers::flush;
 use answers::pass_over;
-use file_field::field::part;
+use bytes_get::part;
 use libc::STDERR_FILENO;
 use libc::STDIN_FILENO;
 use lines::shift;
@@ -86,7 +86,7 @@ fn take_lines(
     out: &mut [u8],
 ) -> Left
     requires { ⌜ len ≤ length (now input) ⌝ }
-    ensures { λ r. ⌜ Taken (now (input .entry)) len desk (memory (now (sets .entry)) (now (ends .entry)) (now (rows .entry)) (now (reach .entry)) (now (paths .entry)) (now (spans .entry)) (now (aims .entry)) (now (numbers .entry)) (now (run .entry)) (now (last .entry))) (now (out .entry)) (now (input .exit)) r (memory (now (sets .exit)) (now (ends .exit)) (now (rows .exit)) (now (reach .exit)) (now (paths .exit)) (now (spans .exit)) (now (aims .exit)) (now (numbers .exit)) (now (run .exit)) (now (last .exit))) (now (out .exit)) ⌝ }
+    ensures { λ r. ⌜ Taken (now (input .entry)) len desk (lentIn sets ends rows reach paths spans aims numbers run last) (now (out .entry)) (now (input .exit)) r (leftIn sets ends rows reach paths spans aims numbers run last) (now (out .exit)) ⌝ }
 {
     let rest = answer_lines(
         &input[..len],

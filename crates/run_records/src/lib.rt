@@ -13,8 +13,8 @@ ghost use Rattle.rules_box.specs.Records.{recordBytes, plain, full, watchdogRec
 ghost use Rattle.rules_box.specs.laws.Fit.{FitRequest};
 ghost use Rattle.memory_run.specs.Run.{wordOf};
 ghost use Rattle.run_records.specs.Bytes.{bytesOf};
-use out_verdict::print::put;
-use out_verdict::print::put_bytes;
+use bytes_put::put;
+use bytes_put::put_bytes;
 use rules_box::Watchdog;
 use run_watchdog::watch::is_early;
 use run_watchdog::watch::is_overdue;

@@ -3,15 +3,15 @@ ghost use mathlib.Core.Path.{_≡_};
 ghost use Prim.Native.Nat.{ℕ, _≤_};
 ghost use lib.ListN.{length, replicate};
 ghost use mathlib.Core.List.{List, []};
-ghost use Rattle.box_calls.specs.Calls.{memory};
+ghost use Rattle.box_calls.specs.Calls.{memory, lentIn, leftIn};
 ghost use Rattle.script_hex.specs.Hex.{decoded};
 ghost use Rattle.script_commands.specs.Script.{commandOf};
 ghost use Rattle.script_answers.specs.Texts.{overLongLine, Prints};
 ghost use Rattle.script_desk.specs.Replay.{fiveOf, kept, Loaded, Stepped, WrittenOut, Replied, Answers};
+use bytes_put::put;
 use memory_plan::layout::*;
 use memory_run::layout::*;
 use out_verdict::print::print_verdict;
-use out_verdict::print::put;
 use rules_box::Event;
 use rules_box::Watchdog;
 use run_events::values::values_of;
@@ -64,7 +64,7 @@ fn load(
     last: &mut Last,
     out: &mut [u8; 65600],
 ) -> Answered
-    ensures { λ r. ⌜ Answers (Loaded (decoded 16_400 (now (word .entry))) (kept (memory (now (sets .exit)) (now (ends .exit)) (now (rows .exit)) (now (reach .exit)) (now (paths .exit)) (now (spans .exit)) (now (aims .exit)) (now (numbers .exit)) (now (run .exit)) (now (last .exit))) (r .watchdog))) (now (out .entry)) (now (out .exit)) (r .end) ⌝ }
+    ensures { λ r. ⌜ Answers (Loaded (decoded 16_400 (now (word .entry))) (kept (leftIn sets ends rows reach paths spans aims numbers run last) (r .watchdog))) (now (out .entry)) (now (out .exit)) (r .end) ⌝ }
 {
     let mut file = file_room();
     let size = decode(word, &mut file);
@@ -268,7 +268,7 @@ pub fn answer(
     watchdog: Watchdog,
     out: &mut [u8; 65600],
 ) -> Answered
-    ensures { λ r. ⌜ Answers (Replied (commandOf (now (line .entry))) (now (line .entry)) number (kept (memory (now (sets .entry)) (now (ends .entry)) (now (rows .entry)) (now (reach .entry)) (now (paths .entry)) (now (spans .entry)) (now (aims .entry)) (now (numbers .entry)) (now (run .entry)) (now (last .entry))) watchdog) (kept (memory (now (sets .exit)) (now (ends .exit)) (now (rows .exit)) (now (reach .exit)) (now (paths .exit)) (now (spans .exit)) (now (aims .exit)) (now (numbers .exit)) (now (run .exit)) (now (last .exit))) (r .watchdog))) (now (out .entry)) (now (out .exit)) (r .end) ⌝ }
+    ensures { λ r. ⌜ Answers (Replied (commandOf (now (line .entry))) (now (line .entry)) number (kept (lentIn sets ends rows reach paths spans aims numbers run last) watchdog) (kept (leftIn sets ends rows reach paths spans aims numbers run last) (r .watchdog))) (now (out .entry)) (now (out .exit)) (r .end) ⌝ }
 {
     let command = command_of(line);
     match command {

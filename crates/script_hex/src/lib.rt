@@ -6,7 +6,7 @@ ghost use lib.ListN.{length, drop};
 ghost use Rattle.lists.specs.Search.{all, isSome};
 ghost use Rattle.lists.specs.Puts.{Puts};
 ghost use Rattle.script_hex.specs.Hex.{isHex, hexOf, bytesOf, decoded, hexDigit, hexText};
-use out_verdict::print::put;
+use bytes_put::put;
 
 fn is_hex(c: u8) -> bool
     ensures { λ r. ⌜ r ≡ isHex c ⌝ }

@@ -6,8 +6,8 @@ ghost use Rattle.lists.specs.Puts.{Puts};
 ghost use Rattle.script_words.specs.Words.{numberOf, numbersOf};
 ghost use Rattle.script_words.specs.Reading.{WordEnds, NumbersRead, behindWord, orNone};
 ghost use Rattle.script_words.specs.Lines.{inRow};
-use out_verdict::print::put;
-use out_verdict::print::put_decimal;
+use bytes_put::put;
+use bytes_put::put_decimal;
 
 // Greater than every number: a word that is no number.
 const NO_NUMBER: u64 = 4_294_967_296;

@@ -34,5 +34,5 @@ is-blank m b f = record { most = at-most-1 b; says = as-number b f }
 pub holds-it : {file sets ends rows reach paths spans aims numbers sets′ ends′ rows′ reach′ paths′ spans′ aims′ numbers′ : List ℕ} (b : Bool)
     → ((o : Option Plan) → Held o sets ends rows reach paths spans aims numbers → (b ≡ true) ↔ ((number (judge file) ≡ 0) × (o ≡ some (planOf file))))
     → Holds (left file) sets′ ends′ rows′ reach′ paths′ spans′ aims′ numbers′
-    → HoldsIt file sets ends rows reach paths spans aims numbers sets′ ends′ rows′ reach′ paths′ spans′ aims′ numbers′ (boolByte b)
+    → HoldsIt file (boolByte b) sets ends rows reach paths spans aims numbers sets′ ends′ rows′ reach′ paths′ spans′ aims′ numbers′
 holds-it b f h = record { most = at-most-1 b; says = λ o held. as-number b (f o held); beside = h }

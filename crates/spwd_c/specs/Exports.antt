@@ -83,7 +83,7 @@ pub record IsBlank (m : Memory) (w : Watchdog) (r : ℕ) : Type 0 where
   pub says : (r ≡ 1) ↔ ((w ≡ watchdogCleared) × At m cleared)
 
 -- `spwd_c_holds`: 1 where the file is accepted and the box holds its plan, else 0. The memory beside the box's has the file's plan afterwards.
-pub record HoldsIt (file sets ends rows reach paths spans aims numbers sets′ ends′ rows′ reach′ paths′ spans′ aims′ numbers′ : List ℕ) (r : ℕ) : Type 0 where
+pub record HoldsIt (file : List ℕ) (r : ℕ) (sets ends rows reach paths spans aims numbers sets′ ends′ rows′ reach′ paths′ spans′ aims′ numbers′ : List ℕ) : Type 0 where
   pub most : r ≤ 1
   pub says : (o : Option Plan) → Held o sets ends rows reach paths spans aims numbers → (r ≡ 1) ↔ ((number (judge file) ≡ 0) × (o ≡ some (planOf file)))
   pub beside : plan.Holds (left file) sets′ ends′ rows′ reach′ paths′ spans′ aims′ numbers′

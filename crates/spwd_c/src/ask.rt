@@ -1,6 +1,7 @@
 // What the lamp on the jig and the reread at the counter ask, as C calls it: 1 for yes, 0 for no.
-ghost use Rattle.box_calls.specs.Calls.{memory};
+ghost use Rattle.box_calls.specs.Calls.{lentIn};
 ghost use Rattle.spwd_c.specs.Exports.{IsBlank, HoldsIt};
+ghost use Rattle.memory_plan.specs.Lent.{atEntry, atExit};
 use box_blank::is_blank;
 use box_holds::holds;
 use memory_plan::layout::*;
@@ -21,7 +22,7 @@ fn blank_with(
     last: &Last,
     w: Watchdog,
 ) -> u32
-    ensures { λ r. ⌜ IsBlank (memory (now (sets .entry)) (now (ends .entry)) (now (rows .entry)) (now (reach .entry)) (now (paths .entry)) (now (spans .entry)) (now (aims .entry)) (now (numbers .entry)) (now (run .entry)) (now (last .entry))) w r ⌝ }
+    ensures { λ r. ⌜ IsBlank (lentIn sets ends rows reach paths spans aims numbers run last) w r ⌝ }
 {
     let blank = is_blank(
         sets,
@@ -54,7 +55,7 @@ pub extern "C" fn spwd_c_is_blank(
     last: &Last,
     watchdog: &Watchdog,
 ) -> u32
-    ensures { λ r. ⌜ IsBlank (memory (now (sets .entry)) (now (ends .entry)) (now (rows .entry)) (now (reach .entry)) (now (paths .entry)) (now (spans .entry)) (now (aims .entry)) (now (numbers .entry)) (now (run .entry)) (now (last .entry))) (now (watchdog .entry)) r ⌝ }
+    ensures { λ r. ⌜ IsBlank (lentIn sets ends rows reach paths spans aims numbers run last) (now (watchdog .entry)) r ⌝ }
 {
     blank_with(
         sets,
@@ -92,8 +93,8 @@ pub extern "C" fn spwd_c_holds(
     other_aims: &mut Aims,
     other_numbers: &mut Numbers,
 ) -> u32
-    ensures { λ r. ⌜ HoldsIt (now (file .entry)) (now (sets .entry)) (now (ends .entry)) (now (rows .entry)) (now (reach .entry)) (now (paths .entry)) (now (spans .entry)) (now (aims .entry)) (now (numbers .entry))
-        (now («other_sets» .exit)) (now («other_ends» .exit)) (now («other_rows» .exit)) (now («other_reach» .exit)) (now («other_paths» .exit)) (now («other_spans» .exit)) (now («other_aims» .exit)) (now («other_numbers» .exit)) r ⌝ }
+    ensures { λ r. ⌜ atExit (atEntry (HoldsIt (now (file .entry)) r) sets ends rows reach paths spans aims numbers)
+        «other_sets» «other_ends» «other_rows» «other_reach» «other_paths» «other_spans» «other_aims» «other_numbers» ⌝ }
 {
     let held = holds(
         file,

@@ -1,5 +1,5 @@
 // Clear and load, as C calls them.
-ghost use Rattle.box_calls.specs.Calls.{memory, ClearLeaves};
+ghost use Rattle.box_calls.specs.Calls.{ClearLeaves, leftIn};
 ghost use Rattle.spwd_c.specs.Exports.{Loads};
 use box_calls::clear::clear;
 use box_calls::load::load;
@@ -23,7 +23,7 @@ pub extern "C" fn spwd_c_clear(
     last: &mut Last,
     watchdog: &mut Watchdog,
 )
-    ensures { λ _. ⌜ ClearLeaves (memory (now (sets .exit)) (now (ends .exit)) (now (rows .exit)) (now (reach .exit)) (now (paths .exit)) (now (spans .exit)) (now (aims .exit)) (now (numbers .exit)) (now (run .exit)) (now (last .exit))) (now (watchdog .exit)) ⌝ }
+    ensures { λ _. ⌜ ClearLeaves (leftIn sets ends rows reach paths spans aims numbers run last) (now (watchdog .exit)) ⌝ }
 {
     *watchdog = clear(
         sets,
@@ -54,7 +54,7 @@ fn load_with(
     last: &mut Last,
     verdict: &mut [u32; 5],
 ) -> Watchdog
-    ensures { λ r. ⌜ Loads (now (file .entry)) (memory (now (sets .exit)) (now (ends .exit)) (now (rows .exit)) (now (reach .exit)) (now (paths .exit)) (now (spans .exit)) (now (aims .exit)) (now (numbers .exit)) (now (run .exit)) (now (last .exit))) r (now (verdict .exit)) ⌝ }
+    ensures { λ r. ⌜ Loads (now (file .entry)) (leftIn sets ends rows reach paths spans aims numbers run last) r (now (verdict .exit)) ⌝ }
 {
     let done = load(
         file,
@@ -91,7 +91,7 @@ pub extern "C" fn spwd_c_load(
     watchdog: &mut Watchdog,
     verdict: &mut [u32; 5],
 )
-    ensures { λ _. ⌜ Loads (now (file .entry)) (memory (now (sets .exit)) (now (ends .exit)) (now (rows .exit)) (now (reach .exit)) (now (paths .exit)) (now (spans .exit)) (now (aims .exit)) (now (numbers .exit)) (now (run .exit)) (now (last .exit))) (now (watchdog .exit)) (now (verdict .exit)) ⌝ }
+    ensures { λ _. ⌜ Loads (now (file .entry)) (leftIn sets ends rows reach paths spans aims numbers run last) (now (watchdog .exit)) (now (verdict .exit)) ⌝ }
 {
     *watchdog = load_with(
         file,

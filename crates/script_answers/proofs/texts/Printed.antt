@@ -8,7 +8,7 @@ use Rattle.lists.specs.Puts.{Puts}
 use Rattle.lists.specs.laws.Puts.{puts-then}
 use Rattle.lists.specs.laws.Stores.{put-front}
 use Rattle.rules_plan.specs.Print.{text, decimal}
-use Rattle.out_verdict.specs.laws.Decimal.{decimal-most}
+use Rattle.bytes_put.specs.laws.Decimal.{decimal-most}
 use Rattle.script_words.specs.Lines.{inRow}
 use Rattle.script_words.specs.laws.Lengths.{row-most}
 use Rattle.script_hex.specs.Hex.{hexText}

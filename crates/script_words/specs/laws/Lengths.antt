@@ -3,7 +3,7 @@ use mathlib.Core.List.{List, [], _∷_, flatMap}
 use Prim.Native.Nat.{ℕ, _*_, _≤_}
 use native.Mathlib.Omega.{arith}
 use lib.ListN.{length, length-append}
-use Rattle.out_verdict.specs.laws.Decimal.{decimal-most}
+use Rattle.bytes_put.specs.laws.Decimal.{decimal-most}
 use Rattle.rules_plan.specs.Print.{decimal, spaced, numbers}
 use Rattle.script_words.specs.Lines.{inRow}
 

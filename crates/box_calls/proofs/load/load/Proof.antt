@@ -17,7 +17,11 @@ greatest-interval-requires : tie.Need-greatest-interval-requires
 greatest-interval-requires c κs = search needs
 
 returns : tie.Need-returns
-returns c = ?
+returns c =
+    let r = c .before .before .before .before .clear-run .ensures in
+    let l = c .before .before .before .before .before .before .before .load .ensures in
+    let five = load-watchdog _ (c .before .before .least-interval .ensures _ _ (l .1 .numbers)) (c .greatest-interval .ensures _ _ (l .1 .numbers)) in
+    record { verdict = l .0; holds = holds-loaded _ (l .1) (r .0) (r .1); five = five }
 
 pub load-spec : {M : Type 1} → statement M
 load-spec =

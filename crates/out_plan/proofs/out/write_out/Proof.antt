@@ -1,6 +1,9 @@
 -- `write_out` meets its contract: memory with an interval of 0 holds no plan, and of a plan the five kinds of fields are put one behind
 -- the other. Assumes nothing.
+use mathlib.Core.Logic.{_≢_}
 use borrow.Author.Needs.{needs}
+use borrow.Author.Tests.{not-true, not-false}
+use Rattle.rules_plan.specs.Plan.{nth}
 use Rattle.out_plan.specs.laws.Parts.{out-puts}
 use Rattle.out_plan.specs.laws.Written.{refuses-20, refuses-30, writes}
 use Rattle.out_plan.proofs.out.write_out.Statement.{statement}
@@ -10,7 +13,9 @@ is-loaded-requires : tie.Need-is-loaded-requires
 is-loaded-requires c κs = search needs
 
 returns : tie.Need-returns
-returns c = let a = c .before .before .before .before .args in refuses-20 (a .sets .now) (a .ends .now) (a .rows .now) (a .reach .now) (a .paths .now) (a .spans .now) (a .aims .now) (a .numbers .now) (a .out .now) (c .if1 .taken)
+returns c o reach =
+    let a = c .before .before .before .args in
+    refuses-20 (a .sets .now) (a .ends .now) (a .rows .now) reach (a .paths .now) (a .spans .now) (a .aims .now) (a .numbers .now) (a .out .now) (c .before .is-loaded .ensures .1 .0 (not-true _ (c .if1 .taken))) o
 
 element-copy-out-size : tie.Need-element-copy-out-size
 element-copy-out-size c = search needs
@@ -21,8 +26,14 @@ cast-size c = search needs
 cast-if2 : tie.Need-cast-if2
 cast-if2 c = search needs
 
+-- behind the first test there is a plan
+loaded : (i : tie.Else1) → nth (i .before .before .before .args .numbers .now) 1 ≢ 0
+loaded i = i .before .is-loaded .ensures .1 .1 (not-false _ (i .if1 .left))
+
 returns-2 : tie.Need-returns-2
-returns-2 c = let a = c .before .before .before .before .before .before .args in refuses-30 (a .sets .now) (a .ends .now) (a .rows .now) (a .reach .now) (a .paths .now) (a .spans .now) (a .aims .now) (a .numbers .now) (a .out .now) (c .before .before .if1 .left) (c .if2 .taken)
+returns-2 c o reach =
+    let a = c .before .before .before .before .before .args in
+    refuses-30 (a .sets .now) (a .ends .now) (a .rows .now) reach (a .paths .now) (a .spans .now) (a .aims .now) (a .numbers .now) (a .out .now) (loaded (c .before .before)) (c .if2 .taken) o
 
 element-copy-out-put-devices : tie.Need-element-copy-out-put-devices
 element-copy-out-put-devices c = search needs
@@ -73,17 +84,17 @@ same-length : tie.Need-same-length
 same-length c = search needs
 
 returns-3 : tie.Need-returns-3
-returns-3 c =
+returns-3 c o reach =
     let t = c .before .before in
-    let e = t .before .before .before .before in
+    let e = t .before .before .before .before .before .before in
     let p = e .before .before .before .before .before .before in
     let l = p .before .before .before .before .before .before in
     let d = l .before .before .before .before .before in
     let i = d .before .before .before .before in
-    let a = i .before .before .before .before .before .before .args in
-    writes (a .sets .now) (a .ends .now) (a .rows .now) (a .reach .now) (a .paths .now) (a .spans .now) (a .aims .now) (a .numbers .now) (a .out .now) (i .before .before .if1 .left) (i .if2 .left)
+    let a = i .before .before .before .before .before .args in
+    writes (a .sets .now) (a .ends .now) (a .rows .now) reach (a .paths .now) (a .spans .now) (a .aims .now) (a .numbers .now) (a .out .now) (loaded (i .before .before)) (i .if2 .left)
     (out-puts (a .sets .now) (a .ends .now) (a .rows .now) (a .paths .now) (a .spans .now) (a .aims .now) (a .numbers .now)
-    (d .put-devices .ensures) (l .put-links .ensures) (p .before .at-most .ensures) (p .put-paths .ensures) (e .before .at-most2 .ensures) (e .put-entries .ensures) (t .put-timing .ensures))
+    (d .put-devices .ensures) (l .put-links .ensures) (p .before .at-most .ensures) (p .put-paths .ensures) (e .before .at-most2 .ensures) (e .put-entries .ensures) (t .put-timing .ensures)) o
 
 pub write-out-spec : {M : Type 1} → statement M
 write-out-spec =

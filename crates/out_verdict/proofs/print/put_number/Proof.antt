@@ -5,7 +5,7 @@ use lib.ListN.{length-set}
 use borrow.Author.Needs.{needs}
 use Rattle.lists.specs.laws.Stores.{put-one, put-then}
 use Rattle.rules_plan.specs.Print.{spaced}
-use Rattle.out_verdict.specs.laws.Decimal.{decimal-length}
+use Rattle.bytes_put.specs.laws.Decimal.{decimal-length}
 use Rattle.out_verdict.proofs.print.put_number.Statement.{statement}
 use Rattle.out_verdict.proofs.print.put_number.Tie as tie
 

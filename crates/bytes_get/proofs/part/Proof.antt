@@ -5,8 +5,8 @@ use native.Mathlib.Omega.{arith}
 use lib.ListN.{length, take, drop, length-drop, drop-of-length-le}
 use lib.Seq.{take-all, take-nil, drop-length}
 use borrow.Author.Needs.{needs}
-use Rattle.file_field.proofs.field.part.Statement.{statement}
-use Rattle.file_field.proofs.field.part.Tie as tie
+use Rattle.bytes_get.proofs.part.Statement.{statement}
+use Rattle.bytes_get.proofs.part.Tie as tie
 
 sub-result : tie.Need-sub-result
 sub-result c = search needs

@@ -1,4 +1,4 @@
--- `line::print::put_bytes` meets its contract. The loop's invariant: the first i bytes of s are put. Assumes nothing.
+-- `put_bytes` meets its contract. The loop's invariant: the first i bytes of s are put. Assumes nothing.
 use mathlib.Core.Path.{refl}
 use Prim.Native.Nat.{_+_, _-_, _≤_}
 use native.Mathlib.Omega.{arith}
@@ -7,8 +7,8 @@ use lib.Seq.{take-all}
 use borrow.Author.Needs.{needs}
 use Rattle.lists.specs.Stores.{Put}
 use Rattle.lists.specs.laws.Stores.{put-more, put-length}
-use Rattle.out_verdict.proofs.print.put_bytes.Statement.{statement}
-use Rattle.out_verdict.proofs.print.put_bytes.Tie as tie
+use Rattle.bytes_put.proofs.put_bytes.Statement.{statement}
+use Rattle.bytes_put.proofs.put_bytes.Tie as tie
 
 abbrev Inv-loop : tie.InvT-loop
 Inv-loop out₀ at s i₀ out i = (i ≤ length s) × Put out₀ at (take i s) out (at + i)

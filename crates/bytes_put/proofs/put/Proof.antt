@@ -1,8 +1,8 @@
--- `line::print::put` meets its contract: bytes that have room are put, and of others nothing is asked. Assumes nothing.
+-- `put` meets its contract: bytes that have room are put, and of others nothing is asked. Assumes nothing.
 use borrow.Author.Needs.{needs}
 use Rattle.lists.specs.laws.Puts.{puts-over}
-use Rattle.out_verdict.proofs.print.put.Statement.{statement}
-use Rattle.out_verdict.proofs.print.put.Tie as tie
+use Rattle.bytes_put.proofs.put.Statement.{statement}
+use Rattle.bytes_put.proofs.put.Tie as tie
 
 returns : tie.Need-returns
 returns c = let a = c .before .before .before .args in puts-over (a .out .now) (a .at) (a .s .now) (a .out .now) (a .at) (search needs)

@@ -1,16 +1,16 @@
--- `line::print::put_decimal` meets its contract. It calls itself with a tenth of n, so its measure is n. Assumes nothing.
+-- `put_decimal` meets its contract. It calls itself with a tenth of n, so its measure is n. Assumes nothing.
 use Prim.Native.Nat.{ℕ, _<_}
 use borrow.Author.Needs.{needs}
 use borrow.Fn.Kinds.{In}
 use borrow.Fn.PlainCycle.{Measures, is, falls, and}
 use Rattle.lists.specs.laws.Puts.{puts-then}
-use Rattle.out_verdict.specs.laws.Decimal.{decimal-small, decimal-more}
-use Rattle.out_verdict.proofs.print.put.Reads.{Asked, Learnt}
-use Rattle.out_verdict.proofs.print.put_decimal.Reads.{Pre, Post}
-use Rattle.out_verdict.proofs.print.put_decimal.Kinds.{ps}
-use Rattle.out_verdict.proofs.print.+put_decimal.Lts-put_decimal as lts
-use Rattle.out_verdict.proofs.print.+put_decimal.{statement}
-use Rattle.out_verdict.proofs.print.+put_decimal.Tie.{close}
+use Rattle.bytes_put.specs.laws.Decimal.{decimal-small, decimal-more}
+use Rattle.bytes_put.proofs.put.Reads.{Asked, Learnt}
+use Rattle.bytes_put.proofs.put_decimal.Reads.{Pre, Post}
+use Rattle.bytes_put.proofs.put_decimal.Kinds.{ps}
+use Rattle.bytes_put.proofs.+put_decimal.Lts-put_decimal as lts
+use Rattle.bytes_put.proofs.+put_decimal.{statement}
+use Rattle.bytes_put.proofs.+put_decimal.Tie.{close}
 
 abbrev μ : Measures 1 ps ℕ
 μ κs a = a .1 .1 .0
