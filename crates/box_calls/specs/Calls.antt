@@ -11,8 +11,8 @@ use Rattle.rules_box.specs.declared.Event.{Event}
 use Rattle.rules_box.specs.declared.Answer.{Answer}
 use Rattle.rules_box.specs.declared.Watchdog.{Watchdog}
 use Rattle.rules_box.specs.State.{Box, cleared, loaded, watchdogCleared, watchdogLoaded}
-use Rattle.rules_box.specs.Step.{step, clockOf}
-use Rattle.memory_run.specs.Memory.{Finds, Does}
+use Rattle.rules_box.specs.Step.{step}
+use Rattle.memory_run.specs.Memory.{Steps}
 use Rattle.box_calls.specs.Box.{Holds}
 
 -- the ten arrays that the caller lends
@@ -70,11 +70,6 @@ pub record Lent : Type 0 where
   pub memory : Memory
   pub five : Watchdog
   pub records : List ℕ
-
--- what an event answers and leaves, in what is lent to it: the contract of `step`
-abbrev pub Steps : (rows spans aims numbers run last : List ℕ) → Watchdog → List ℕ → Event → Answer → (run′ last′ : List ℕ) → Watchdog → List ℕ → Type 0
-Steps rows spans aims numbers run last w records e answer run′ last′ w′ records′ =
-    (b : Box) → Finds b rows spans aims numbers run last → Does (step (length records) b w e) (clockOf e) answer w′ run′ last′ records records′
 
 -- memory with other run memory
 unfoldable pub withRun : Memory → List ℕ → List ℕ → Memory

@@ -21,7 +21,7 @@ fn meets_after(lanes: &[u64; 8], i: usize) -> usize
     ensures { λ r. ⌜ r ≡ firstFrom (7 - i) (i + 1) (meets (now (lanes .entry)) i) ⌝ }
 {
     let mut j: usize = i + 1;
-    while j < 8 {
+    while j < ROWS {
         if !bitsets::disjoint(lanes[i], lanes[j]) {
             return j;
         }
@@ -52,9 +52,9 @@ fn clash_in(
 {
     let lanes = lanes_in(rows, paths, spans, aims, numbers, slot);
     let mut i: usize = 0;
-    while i < 8 {
+    while i < ROWS {
         let j = meets_after(&lanes, i);
-        if j < 8 {
+        if j < ROWS {
             let link = least_common(lanes[i], lanes[j]);
             let smaller = rows[i];
             let greater = rows[j];

@@ -6,7 +6,7 @@ ghost use Rattle.rules_plan.specs.Plan.{Plan, nth};
 ghost use Rattle.rules_plan.specs.Judge.{plan, readFile, counts, judge};
 ghost use Rattle.rules_plan.specs.Canon.{given};
 ghost use Rattle.rules_plan.specs.laws.Fair.{Fair};
-ghost use Rattle.memory_plan.specs.Memory.{setsOf, rowsOf, pathsOf, spansOf, aimsOf, numbersWith, numbersOf};
+ghost use Rattle.memory_plan.specs.Memory.{setsOf, rowsOf, pathsOf, spansOf, aimsOf, numbersWith, numbersOf, pathsIn};
 use load_clashes::find_clash;
 use load_overruns::find_overrun;
 use memory_plan::layout::*;
@@ -15,7 +15,7 @@ use rules_plan::Verdict;
 
 // The counts of the plan that memory holds.
 fn counted(sets: &Sets, numbers: &Numbers) -> Verdict
-    requires { ⌜ (nth (now numbers) 3 ≤ 128) × (nth (now numbers) 4 ≤ 512) ⌝ }
+    requires { ⌜ (pathsIn (now numbers) ≤ 128) × (nth (now numbers) 4 ≤ 512) ⌝ }
     ensures { λ r. ⌜ ((size : ℕ) (p : Plan) → Fair p → now (sets .entry) ≡ setsOf p → now (numbers .entry) ≡ numbersWith size p → r ≡ counts p) ⌝ }
 {
     let devices = bitsets::size(bitsets::union(sets[NODES], sets[ROUTERS]));

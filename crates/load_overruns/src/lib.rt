@@ -50,7 +50,7 @@ pub fn find_overrun(rows: &Rows, spans: &Spans, numbers: &Numbers) -> Search
 {
     let count = numbers[INITIATORS];
     let mut row: usize = 0;
-    while row < 8 {
+    while row < ROWS {
         if row as u32 >= count {
             return Search::Nothing;
         }

@@ -3,10 +3,10 @@ ghost use mathlib.Core.Path.{_≡_};
 ghost use mathlib.Core.List.{List};
 ghost use Prim.Native.Nat.{ℕ, _<_};
 ghost use Rattle.lists.specs.Search.{any};
-ghost use Rattle.rules_plan.specs.Plan.{nth, Plan};
+ghost use Rattle.rules_plan.specs.Plan.{Plan};
 ghost use Rattle.rules_plan.specs.Judge.{over63, outOfRange};
 ghost use Rattle.rules_plan.specs.laws.Fair.{Fair};
-ghost use Rattle.memory_plan.specs.Memory.{setsOf, endsOf, rowsOf, reachOf, numbersWith};
+ghost use Rattle.memory_plan.specs.Memory.{setsOf, endsOf, rowsOf, reachOf, numbersWith, initiatorsIn, pathsIn};
 ghost use Rattle.memory_plan.specs.Take.{itemFault, pathItem};
 ghost use Rattle.memory_plan.specs.Rows.{rowAmong};
 use load_walks::trace;
@@ -41,17 +41,17 @@ pub fn path_fault(
     target: u8,
     links: &[u8],
 ) -> u8
-    requires { ⌜ row ≡ rowAmong (now rows) (nth (now numbers) 2) initiator ⌝ }
+    requires { ⌜ row ≡ rowAmong (now rows) (initiatorsIn (now numbers)) initiator ⌝ }
     ensures { λ r. ⌜ ((size : ℕ) (p : Plan) → Fair p → now (sets .entry) ≡ setsOf p → now (ends .entry) ≡ endsOf p →
         now (rows .entry) ≡ rowsOf p → now (reach .entry) ≡ reachOf p → now (numbers .entry) ≡ numbersWith size p →
         r ≡ itemFault p (pathItem initiator target (now (links .entry)))) ⌝ }
-    ensures { λ r. ⌜ (r ≡ 0 → (row < 8) × (nth (now (numbers .entry)) 3 < 128)) ⌝ }
+    ensures { λ r. ⌜ (r ≡ 0 → (row < 8) × (pathsIn (now (numbers .entry)) < 128)) ⌝ }
 {
     let t = trace(sets, ends, initiator, links, target);
     if path_range(initiator, target, t.over) {
         return 6;
     }
-    if row < 8 {
+    if row < ROWS {
         if bitsets::has(reach[row], target) {
             return 7;
         }
@@ -66,7 +66,7 @@ pub fn path_fault(
     if !bitsets::within(t.set, sets[LINKS]) {
         return 8;
     }
-    if 8 <= row {
+    if ROWS <= row {
         return 9;
     }
     if 128 <= numbers[PATHS] {

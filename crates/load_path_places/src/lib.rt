@@ -4,9 +4,9 @@ ghost use mathlib.Core.List.{[], _∷_};
 ghost use Prim.Native.Nat.{ℕ, _≤_, _<_};
 ghost use lib.ListN.{length};
 ghost use Rattle.lists.specs.Insert.{putIn};
-ghost use Rattle.rules_plan.specs.Plan.{nth};
 ghost use Rattle.memory_plan.specs.Rows.{rowAmong};
 ghost use Rattle.load_path_places.specs.Places.{rowPlace, ownRow, withRow, withCount, precedesAt, IsPlace};
+ghost use Rattle.memory_plan.specs.Memory.{initiatorsIn};
 use memory_plan::layout::*;
 
 // Makes a row for a new initiator, at its place among the first count rows, with no path yet; answers the row.
@@ -40,13 +40,13 @@ pub fn own_row(
     row: usize,
     initiator: u8,
 ) -> usize
-    requires { ⌜ (row ≡ rowAmong (now rows) (nth (now numbers) 2) initiator) × (row < 8) ⌝ }
+    requires { ⌜ (row ≡ rowAmong (now rows) (initiatorsIn (now numbers)) initiator) × (row < 8) ⌝ }
     ensures { λ r. ⌜ (r < 8)
         × (now (numbers .exit) ≡ withCount (now (rows .entry)) (now (numbers .entry)) initiator)
         × (length (now (rows .entry)) ≡ 8 → length (now (reach .entry)) ≡ 8 →
-        (r ≡ ownRow (now (rows .entry)) (nth (now (numbers .entry)) 2) initiator)
-        × (now (rows .exit) ≡ withRow (now (rows .entry)) (nth (now (numbers .entry)) 2) initiator initiator (now (rows .entry)))
-        × (now (reach .exit) ≡ withRow (now (rows .entry)) (nth (now (numbers .entry)) 2) initiator 0 (now (reach .entry)))) ⌝ }
+        (r ≡ ownRow (now (rows .entry)) (initiatorsIn (now (numbers .entry))) initiator)
+        × (now (rows .exit) ≡ withRow (now (rows .entry)) (initiatorsIn (now (numbers .entry))) initiator initiator (now (rows .entry)))
+        × (now (reach .exit) ≡ withRow (now (rows .entry)) (initiatorsIn (now (numbers .entry))) initiator 0 (now (reach .entry)))) ⌝ }
 {
     let count = numbers[INITIATORS];
     if row as u32 != count {

@@ -4,9 +4,9 @@ ghost use Prim.Native.Nat.{ℕ, _≤_, _<_};
 ghost use lib.ListN.{length};
 ghost use lib.Seq.{paste};
 ghost use Rattle.lists.specs.Insert.{moved};
-ghost use Rattle.rules_plan.specs.Plan.{nth, Plan};
+ghost use Rattle.rules_plan.specs.Plan.{Plan};
 ghost use Rattle.rules_plan.specs.laws.Fair.{Fair};
-ghost use Rattle.memory_plan.specs.Memory.{setsOf, endsOf, rowsOf, reachOf, pathRow, pathsOf, numbersWith};
+ghost use Rattle.memory_plan.specs.Memory.{setsOf, endsOf, rowsOf, reachOf, pathRow, pathsOf, numbersWith, initiatorsIn, pathsIn};
 ghost use Rattle.memory_plan.specs.Take.{itemFault, taken, pathItem};
 ghost use Rattle.load_paths.specs.Keep.{route, keptReach, keptPaths, keptNumbers};
 ghost use Rattle.memory_plan.specs.Rows.{rowAmong};
@@ -17,7 +17,7 @@ use load_path_places::place_of;
 use memory_plan::layout::*;
 use memory_plan::rows::row_among;
 
-// Moves the bytes from start to end eleven places on.
+// Moves the bytes from start to end on by those of one path.
 fn make_room(paths: &mut Paths, start: usize, end: usize)
     requires { ⌜ (start ≤ end) × (end ≤ 1397) ⌝ }
     ensures { λ _. ⌜ (length (now (paths .entry)) ≡ 1408 → now (paths .exit) ≡ moved 11 start end (now (paths .entry))) ⌝ }
@@ -25,26 +25,26 @@ fn make_room(paths: &mut Paths, start: usize, end: usize)
     let mut n = end;
     while start < n {
         n -= 1;
-        paths[n + 11] = paths[n];
+        paths[n + PATH] = paths[n];
     }
 }
 
-// Puts the eleven bytes of a path at a place.
-fn put_path(paths: &mut Paths, at: usize, initiator: u8, target: u8, links: &[u8])
+// Stores the bytes of a path at a place.
+fn store_path(paths: &mut Paths, at: usize, initiator: u8, target: u8, links: &[u8])
     requires { ⌜ (at ≤ 1397) × (length (now links) ≤ 8) ⌝ }
     ensures { λ _. ⌜ (length (now (paths .entry)) ≡ 1408 →
         now (paths .exit) ≡ paste (now (paths .entry)) at (pathRow (route initiator target (now (links .entry)))) 11) ⌝ }
 {
     let n = links.len();
     paths[at] = initiator;
-    paths[at + 1] = target;
-    paths[at + 2] = n as u8;
+    paths[at + PATH_TARGET] = target;
+    paths[at + PATH_COUNT] = n as u8;
     let mut k = 0;
-    while k < 8 {
+    while k < MOST_LINKS {
         if k < n {
-            paths[at + 3 + k] = links[k];
+            paths[at + PATH_LINKS + k] = links[k];
         } else {
-            paths[at + 3 + k] = 0;
+            paths[at + PATH_LINKS + k] = 0;
         }
         k += 1;
     }
@@ -61,12 +61,12 @@ fn keep_path(
     target: u8,
     links: &[u8],
 )
-    requires { ⌜ (row ≡ rowAmong (now rows) (nth (now numbers) 2) initiator) × (row < 8) × (nth (now numbers) 3 < 128) × (length (now links) ≤ 8) ⌝ }
+    requires { ⌜ (row ≡ rowAmong (now rows) (initiatorsIn (now numbers)) initiator) × (row < 8) × (pathsIn (now numbers) < 128) × (length (now links) ≤ 8) ⌝ }
     ensures { λ _. ⌜ (length (now (rows .entry)) ≡ 8 → length (now (reach .entry)) ≡ 8 → length (now (paths .entry)) ≡ 1408 →
-        (now (rows .exit) ≡ withRow (now (rows .entry)) (nth (now (numbers .entry)) 2) initiator initiator (now (rows .entry)))
-        × (now (reach .exit) ≡ keptReach (now (rows .entry)) (now (reach .entry)) (nth (now (numbers .entry)) 2) (route initiator target (now (links .entry))))
-        × ((m : ℕ) → IsPlace (now (paths .entry)) (nth (now (numbers .entry)) 3) initiator target m →
-        now (paths .exit) ≡ keptPaths (now (paths .entry)) (nth (now (numbers .entry)) 3) m (route initiator target (now (links .entry))))
+        (now (rows .exit) ≡ withRow (now (rows .entry)) (initiatorsIn (now (numbers .entry))) initiator initiator (now (rows .entry)))
+        × (now (reach .exit) ≡ keptReach (now (rows .entry)) (now (reach .entry)) (initiatorsIn (now (numbers .entry))) (route initiator target (now (links .entry))))
+        × ((m : ℕ) → IsPlace (now (paths .entry)) (pathsIn (now (numbers .entry))) initiator target m →
+        now (paths .exit) ≡ keptPaths (now (paths .entry)) (pathsIn (now (numbers .entry))) m (route initiator target (now (links .entry))))
         × (now (numbers .exit) ≡ keptNumbers (now (rows .entry)) (now (numbers .entry)) initiator)) ⌝ }
 {
     let row = own_row(rows, reach, numbers, row, initiator);
@@ -75,7 +75,7 @@ fn keep_path(
     let n = count as usize;
     let k = place_of(paths, n, initiator, target);
     make_room(paths, k * PATH, n * PATH);
-    put_path(paths, k * PATH, initiator, target, links);
+    store_path(paths, k * PATH, initiator, target, links);
     numbers[PATHS] = count + 1;
 }
 

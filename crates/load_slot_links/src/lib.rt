@@ -102,7 +102,7 @@ pub fn lanes_in(
 {
     let mut lanes = [0u64; 8];
     let mut row: usize = 0;
-    while row < 8 {
+    while row < ROWS {
         lanes[row] = links_in(rows, paths, spans, aims, numbers, row, slot);
         row += 1;
     }

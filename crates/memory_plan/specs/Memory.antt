@@ -12,7 +12,7 @@ use Rattle.lists.specs.Place.{atPlace}
 use Rattle.lists.specs.Order.{inOrder}
 use Rattle.lists.specs.Cells.{cells, padded}
 use Rattle.bitsets.specs.Set.{packed}
-use Rattle.rules_plan.specs.Plan.{Link, Route, Entry, Plan}
+use Rattle.rules_plan.specs.Plan.{nth, Link, Route, Entry, Plan}
 use Rattle.rules_plan.specs.Meaning.{hasKind, isLink, hasPath, initiators, entryAt, leastOf, greatestOf}
 use Rattle.rules_plan.specs.Canon.{written}
 
@@ -76,6 +76,16 @@ numbersWith size p =
     ∷ length (p .entries)
     ∷ size
     ∷ []
+
+-- its places, as contracts name them
+abbrev pub greatestIn : List ℕ → ℕ
+greatestIn numbers = nth numbers 1
+
+abbrev pub initiatorsIn : List ℕ → ℕ
+initiatorsIn numbers = nth numbers 2
+
+abbrev pub pathsIn : List ℕ → ℕ
+pathsIn numbers = nth numbers 3
 
 -- the eight arrays hold plan p, with any size for that of the plan written out
 pub record HoldsSized (size : ℕ) (p : Plan) (sets′ ends′ rows′ reach′ paths′ spans′ aims′ numbers′ : List ℕ) : Type 0 where

@@ -14,7 +14,7 @@ use crate::layout::*;
 pub fn span_at(spans: &Spans, row: usize, slot: u8) -> u8
     ensures { λ r. ⌜ ((p : Plan) → Sound p → now (spans .entry) ≡ spansOf p → r ≡ ofRow p row (λ (i : ℕ). spanOf (entryAt (p .entries) i slot))) ⌝ }
 {
-    if 8 <= row {
+    if ROWS <= row {
         return 0;
     }
     if 64 <= slot {
@@ -27,7 +27,7 @@ pub fn span_at(spans: &Spans, row: usize, slot: u8) -> u8
 pub fn targets_at(aims: &Aims, row: usize, slot: u8) -> u64
     ensures { λ r. ⌜ ((p : Plan) → Sound p → now (aims .entry) ≡ aimsOf p → r ≡ ofRow p row (λ (i : ℕ). aimOf (entryAt (p .entries) i slot))) ⌝ }
 {
-    if 8 <= row {
+    if ROWS <= row {
         return 0;
     }
     if 64 <= slot {

@@ -12,7 +12,9 @@ pub const ROUTERS: usize = 1;
 
 pub const LINKS: usize = 2;
 
-// `ends`: of each link its two devices.
+// `ends`: of each link its two devices, the smaller first.
+pub const LINK: usize = 2;
+
 pub const ENDS: usize = 128;
 
 pub type Ends = [u8; ENDS];
@@ -35,6 +37,8 @@ pub const PATH_TARGET: usize = 1;
 pub const PATH_COUNT: usize = 2;
 
 pub const PATH_LINKS: usize = 3;
+
+pub const MOST_LINKS: usize = 8;
 
 pub const PATH_BYTES: usize = 1408;
 

@@ -14,5 +14,5 @@ pub fn row_for(rows: &Rows, numbers: &Numbers, i: u8) -> usize
 {
     let count = numbers[INITIATORS];
     let row = row_among(rows, count, i);
-    if (row as u32) < count { row } else { 8 }
+    if (row as u32) < count { row } else { ROWS }
 }

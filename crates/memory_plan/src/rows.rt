@@ -13,7 +13,7 @@ fn first_row(rows: &Rows, i: u8) -> usize
     ensures { λ r. ⌜ r ≡ firstFrom 8 0 (λ (k : ℕ). eqb i (nth (now (rows .entry)) k)) ⌝ }
 {
     let mut k = 0;
-    while k < 8 {
+    while k < ROWS {
         let b = rows[k];
         if b == i {
             return k;

@@ -10,6 +10,8 @@ pub const WAITING: usize = 1;
 
 pub const LINE: usize = 2;
 
+pub const PLACES: usize = 8;
+
 pub const LIVE: usize = 10;
 
 pub const TIME: usize = 11;

@@ -18,12 +18,12 @@ use bytes_put::put_bytes;
 use memory_plan::layout::*;
 
 // The links from a place of memory on, count of them. The loop says too that they are at most eight: the compiler then makes no loop for long copies.
-fn put_links(out: &mut [u8], at: usize, paths: &Paths, start: usize, count: usize) -> usize
+fn put_path_links(out: &mut [u8], at: usize, paths: &Paths, start: usize, count: usize) -> usize
     requires { ⌜ (count ≤ 8) × (start + count ≤ 1408) × (at + count ≤ length (now out)) ⌝ }
     ensures { λ r. ⌜ Put (now (out .entry)) at (linksFrom (now (paths .entry)) start count) (now (out .exit)) r ⌝ }
 {
     let mut i = 0;
-    while i < 8 {
+    while i < MOST_LINKS {
         if count <= i {
             return at + i;
         }
@@ -38,12 +38,12 @@ fn put_path(out: &mut [u8], at: usize, paths: &Paths, n: usize) -> usize
     requires { ⌜ n < 128 ⌝ }
     ensures { λ r. ⌜ Puts (now (out .entry)) at (pathBytes (now (paths .entry)) n) (now (out .exit)) r ⌝ }
 {
-    let row = 11 * n;
-    let count = wide(paths[row + 2]);
+    let row = PATH * n;
+    let count = wide(paths[row + PATH_COUNT]);
     if count == 0 {
         return at;
     }
-    if 8 < count {
+    if MOST_LINKS < count {
         return at;
     }
     let whole = 5 + count;
@@ -56,10 +56,10 @@ fn put_path(out: &mut [u8], at: usize, paths: &Paths, n: usize) -> usize
     }
     // At most ten bytes: their number has no high byte.
     let initiator = paths[row];
-    let target = paths[row + 1];
+    let target = paths[row + PATH_TARGET];
     let start = [3, 0, 2 + count as u8, initiator, target];
     let k = put_bytes(out, at, &start);
-    put_links(out, k, paths, row + 3, count)
+    put_path_links(out, k, paths, row + PATH_LINKS, count)
 }
 
 // The paths of the first rows, row by row.
@@ -113,8 +113,8 @@ fn put_entry(out: &mut [u8], at: usize, rows: &Rows, spans: &Spans, aims: &Aims,
     }
     // At most 67 bytes: their number has no high byte.
     let size = 3 + members as u8;
-    let initiator = rows[n / 64];
-    let slot = (n % 64) as u8;
+    let initiator = rows[n / SLOTS];
+    let slot = (n % SLOTS) as u8;
     let start = [4, 0, size, initiator, slot, span];
     let k = put_bytes(out, at, &start);
     put_members(out, k, aim)

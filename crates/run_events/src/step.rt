@@ -1,8 +1,5 @@
 // One step: the event decides.
-ghost use lib.ListN.{length};
-ghost use Rattle.rules_box.specs.State.{Box};
-ghost use Rattle.rules_box.specs.Step as rules;
-ghost use Rattle.memory_run.specs.Memory.{Finds, Does};
+ghost use Rattle.memory_run.specs.Memory.{Steps};
 use crate::reading::reading;
 use memory_plan::layout::*;
 use memory_run::layout::*;
@@ -25,8 +22,8 @@ pub fn step(
     event: Event,
     records: &mut [u8],
 ) -> Stepped
-    ensures { λ r. ⌜ ((b : Box) → Finds b (now (rows .entry)) (now (spans .entry)) (now (aims .entry)) (now (numbers .entry)) (now (run .entry)) (now (last .entry)) →
-        Does (rules.step (length (now (records .entry))) b w event) (rules.clockOf event) (r .answer) (r .watchdog) (now (run .exit)) (now (last .exit)) (now (records .entry)) (now (records .exit))) ⌝ }
+    ensures { λ r. ⌜ Steps (now (rows .entry)) (now (spans .entry)) (now (aims .entry)) (now (numbers .entry)) (now (run .entry)) (now (last .entry)) w (now (records .entry)) event
+        (r .answer) (now (run .exit)) (now (last .exit)) (r .watchdog) (now (records .exit)) ⌝ }
 {
     match event {
         Event::TimeCode { byte, clock } => time_code(

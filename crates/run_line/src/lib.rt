@@ -70,16 +70,16 @@ pub fn find_row(row: &[u64], targets: u64, span: u8) -> usize
 {
     let n = row[WAITING] as usize;
     let mut i = 0;
-    while i < 8 {
+    while i < PLACES {
         if n <= i {
-            return 8;
+            return PLACES;
         }
         if permits_word(row[i + LINE], targets, span) {
             return i;
         }
         i += 1;
     }
-    8
+    PLACES
 }
 
 // The eight places once the one at place k has left: those behind move up, and the last is 0.
@@ -88,14 +88,14 @@ fn shift(places: &mut [u64], k: usize)
     ensures { λ r. ⌜ now (places .exit) ≡ without k (now (places .entry)) ++ 0 ∷ [] ⌝ }
 {
     let mut j = 0;
-    while j < 7 {
+    while j < PLACES - 1 {
         let next = j + 1;
         if k <= j {
             places[j] = places[next];
         }
         j = next;
     }
-    places[7] = 0;
+    places[PLACES - 1] = 0;
 }
 
 // The same. Most often the oldest leaves, and for place 0 the compiler makes one move of all places, with no test.

@@ -19,6 +19,11 @@ use rules_box::Watchdog;
 use run_watchdog::watch::is_early;
 use run_watchdog::watch::is_overdue;
 
+// "Each record has 8 bytes"; "At most 17".
+pub const RECORD_SIZE: usize = 8;
+
+pub const RECORD_ROOM: usize = 136;
+
 // "kinds 1 to 3 fill kind and v, the rest 0"
 fn put_plain(out: &mut [u8], at: usize, kind: u8, v: u8, clock: u32) -> usize
     ensures { λ r. ⌜ Puts (now (out .entry)) at (recordBytes clock (plain kind v)) (now (out .exit)) r ⌝ }
@@ -28,7 +33,7 @@ fn put_plain(out: &mut [u8], at: usize, kind: u8, v: u8, clock: u32) -> usize
 }
 
 // The eight bytes of a word, the lowest first: one store for the compiler.
-fn put_word(out: &mut [u8], at: usize, word: u64) -> usize
+fn put_eight(out: &mut [u8], at: usize, word: u64) -> usize
     requires { ⌜ at + 8 ≤ length (now out) ⌝ }
     ensures { λ r. ⌜ Put (now (out .entry)) at (bytesOf word) (now (out .exit)) r ⌝ }
 {
@@ -54,11 +59,11 @@ pub fn put_full(out: &mut [u8], at: usize, kind: u8, v: u8, word: u64, clock: u3
 {
     let bare = word - word / 128 % 2 * 128 - word / 16_777_216 % 256 * 16_777_216;
     let head = kind as u64 + v as u64 * 16_777_216;
-    put_word(out, at, std::num::wrapping_add_u64(bare, head))
+    put_eight(out, at, std::num::wrapping_add_u64(bare, head))
 }
 
 // 1. "watchdog: kind 1 early …, else kind 2 late"
-pub fn put_watchdog(out: &mut [u8], at: usize, w: Watchdog, clock: u32, v: u8) -> usize
+pub fn put_watchdog_record(out: &mut [u8], at: usize, w: Watchdog, clock: u32, v: u8) -> usize
     ensures { λ r. ⌜ Puts (now (out .entry)) at (flatMap (recordBytes clock) (watchdogRecord w clock v)) (now (out .exit)) r × (at + recordSize ≤ length (now (out .entry)) → r ≤ at + recordSize) ⌝ }
 {
     if is_early(w, clock) {
@@ -71,7 +76,7 @@ pub fn put_watchdog(out: &mut [u8], at: usize, w: Watchdog, clock: u32, v: u8) -
 }
 
 // 2. "kind 3 if out of sequence"
-pub fn put_sequence(out: &mut [u8], at: usize, in_sequence: bool, v: u8, clock: u32) -> usize
+pub fn put_sequence_record(out: &mut [u8], at: usize, in_sequence: bool, v: u8, clock: u32) -> usize
     ensures { λ r. ⌜ Puts (now (out .entry)) at (flatMap (recordBytes clock) (sequenceRecord «in_sequence» v)) (now (out .exit)) r
         × (at + recordSize ≤ length (now (out .entry)) → r ≤ at + recordSize) × («in_sequence» ≡ true → r ≡ at) ⌝ }
 {

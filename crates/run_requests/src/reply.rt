@@ -27,7 +27,7 @@ pub fn reply(
         (room : ℕ) (w : Watchdog) → Answers (rules.step room b w (Reply initiator number status)) r (now (run .exit)) last) ⌝ }
 {
     let row = row_for(rows, numbers, initiator);
-    if 8 <= row {
+    if ROWS <= row {
         return no_row(numbers);
     }
     end_row(&mut run[row * ROW..row * ROW + ROW], number, status)

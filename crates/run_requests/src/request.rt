@@ -1,4 +1,5 @@
-// A request: "Joins its initiator's line and gets that initiator's next 16-bit transaction number".
+// A request: "Joins its initiator's line and gets that initiator's next 16-bit transaction number". Refusals 20 and 22 are told in no_row,
+// 26 in asking.
 ghost use mathlib.Core.Path.{_≡_};
 ghost use mathlib.Core.List.{List};
 ghost use Prim.Native.Nat.{ℕ};
@@ -45,7 +46,7 @@ pub fn request(
         (room : ℕ) (w : Watchdog) → Answers (rules.step room b w (Request initiator target kind length)) r (now (run .exit)) last) ⌝ }
 {
     let row = row_for(rows, numbers, initiator);
-    if 8 <= row {
+    if ROWS <= row {
         return no_row(numbers);
     }
     if 1 < kind {

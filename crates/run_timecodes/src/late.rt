@@ -15,6 +15,7 @@ ghost use Rattle.rules_box.specs.Records.{recordBytes, lateRecord};
 ghost use Rattle.rules_box.specs.laws.Fit.{FitSide};
 ghost use Rattle.memory_run.specs.Run.{rowOf, runOf};
 ghost use Rattle.memory_run.specs.Row.{IsRow, IsRun};
+use memory_plan::layout::*;
 use memory_run::layout::*;
 use run_records::put_full;
 use run_turns::age_row;
@@ -58,7 +59,7 @@ pub fn report_late(
 {
     let mut k = at;
     let mut row = 0;
-    while row < 8 {
+    while row < ROWS {
         k = late_row(
             &mut run[row * ROW..row * ROW + ROW],
             out,

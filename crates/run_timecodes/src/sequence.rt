@@ -10,6 +10,7 @@ ghost use Rattle.rules_box.specs.Turn.{inSequence};
 ghost use Rattle.memory_run.specs.Run.{lastOf};
 use memory_plan::interval::is_loaded;
 use memory_plan::layout::*;
+use run_records::RECORD_ROOM;
 
 // "The first after a load is in sequence; later ones are if v is one more than the last accepted value … modulo 64."
 pub fn in_sequence(last: u8, byte: u8) -> bool
@@ -31,7 +32,7 @@ pub fn refuse(numbers: &Numbers, byte: u8, room: usize) -> u8
     if 64 <= byte {
         return 21;
     }
-    if room < 136 {
+    if room < RECORD_ROOM {
         return 29;
     }
     0

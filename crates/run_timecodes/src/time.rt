@@ -21,8 +21,9 @@ use memory_plan::layout::*;
 use memory_run::layout::*;
 use rules_box::Answer;
 use rules_box::Watchdog;
-use run_records::put_sequence;
-use run_records::put_watchdog;
+use run_records::RECORD_SIZE;
+use run_records::put_sequence_record;
+use run_records::put_watchdog_record;
 use run_watchdog::watch::Stepped;
 use run_watchdog::watch::fed_with;
 
@@ -45,8 +46,8 @@ fn run_on(
 {
     let v = byte % 64;
     let q = in_sequence(last, byte);
-    let watched = put_watchdog(records, 0, w, clock, v);
-    let sequenced = put_sequence(records, watched, q, v, clock);
+    let watched = put_watchdog_record(records, 0, w, clock, v);
+    let sequenced = put_sequence_record(records, watched, q, v, clock);
     let late = report_late(run, records, sequenced, v, clock, q);
     if q {
         return visit_all(spans, aims, run, records, late, v, clock);
@@ -79,7 +80,7 @@ pub fn time_code(
     last[0] = byte + 1;
     Stepped {
         answer: Answer::Recorded {
-            count: (end / 8 % 256) as u8,
+            count: (end / RECORD_SIZE % 256) as u8,
         },
         watchdog: fed_with(w, clock),
     }

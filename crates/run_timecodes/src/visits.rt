@@ -73,7 +73,7 @@ pub fn visit_all(
 {
     let mut k = at;
     let mut row = 0;
-    while row < 8 {
+    while row < ROWS {
         let span = span_at(spans, row, v);
         if span != 0 {
             let targets = targets_at(aims, row, v);

@@ -26,7 +26,8 @@ pub struct Turned {
     pub word: u64,
 }
 
-// "out of sequence, every live one; else each one started span accepted time-codes ago": one is left to it
+// "out of sequence, every live one; else each one started span accepted time-codes ago": one is left to it, and its time is 256 and its
+// span, where two would be 512 and more.
 fn is_late(time: u64, in_sequence: bool) -> bool
     ensures { λ r. ⌜ (r ≡ false → 512 ≤ time) ⌝ }
     ensures { λ r. ⌜ ((l : Live) → FitLive l → time ≡ liveTime (some l) → r ≡ isLate «in_sequence» l) ⌝ }
@@ -89,7 +90,7 @@ pub fn start_row(row: &mut [u64], targets: u64, span: u8) -> Turned
         return begin_at(row, 0, span);
     }
     let k = find_row(row, targets, span);
-    if k >= 8 {
+    if k >= PLACES {
         return Turned {
             one: false,
             word: 0,

@@ -22,7 +22,8 @@ use Rattle.rules_box.specs.declared.Watchdog.{Watchdog}
 use Rattle.rules_box.specs.State.{cleared, watchdogCleared}
 use Rattle.rules_box.specs.Answer.{values}
 use Rattle.run_events.specs.Values.{listed}
-use Rattle.box_calls.specs.Calls.{Memory, At, LoadLeaves, Steps}
+use Rattle.box_calls.specs.Calls.{Memory, At, LoadLeaves}
+use Rattle.memory_run.specs.Memory.{Steps}
 use Rattle.c_numbers.specs.Numbers.{verdictNumbers, verdictOf, sizedNumbers}
 
 -- `spwd_c_load`

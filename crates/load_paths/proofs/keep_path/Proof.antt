@@ -55,11 +55,11 @@ mul-make-room-2 c = omega (arith, three (c .before .before .before .before .befo
 make-room-requires : tie.Need-make-room-requires
 make-room-requires c κs = (omega (arith, upto (c .before)), omega (arith, three (c .before .before .before .before .before .before)))
 
-mul-put-path : tie.Need-mul-put-path
-mul-put-path c = omega (arith, upto (c .before .before .before), three (c .before .before .before .before .before .before .before .before))
+mul-store-path : tie.Need-mul-store-path
+mul-store-path c = omega (arith, upto (c .before .before .before), three (c .before .before .before .before .before .before .before .before))
 
-put-path-requires : tie.Need-put-path-requires
-put-path-requires c κs = (omega (arith, upto (c .before .before .before), three (c .before .before .before .before .before .before .before .before)), c .before .before .before .before .before .before .before .before .before .before .before .before .before .pre .3)
+store-path-requires : tie.Need-store-path-requires
+store-path-requires c κs = (omega (arith, upto (c .before .before .before), three (c .before .before .before .before .before .before .before .before)), c .before .before .before .before .before .before .before .before .before .before .before .before .before .pre .3)
 
 add-numbers : tie.Need-add-numbers
 add-numbers c = omega (arith, three (c .before .before .before .before .before .before .before .before .before))
@@ -75,7 +75,7 @@ returns c = λ e f g.
     let m = o .own-row .ensures .2 e f in (
       m .1,
       reach-stored _ _ _ _ _ _ x (m .0) (m .2) (c .before .before .before .before .before .before .before .add .ok) (c .before .before .before .before .before .before .before .add .ensures),
-      paths-stored _ _ _ _ _ _ x g (o .before .before .before .before .before .pre .3) (three o) (o .before .before .before .before .before .pre .2) (c .before .before .before .before .place-of .ensures) (c .before .before .make-room .ensures) (c .put-path .ensures),
+      paths-stored _ _ _ _ _ _ x g (o .before .before .before .before .before .pre .3) (three o) (o .before .before .before .before .before .pre .2) (c .before .before .before .before .place-of .ensures) (c .before .before .make-room .ensures) (c .store-path .ensures),
       numbers-stored _ _ _ _ (o .own-row .ensures .1),
     )
 
@@ -95,8 +95,8 @@ keep-path-spec =
     mul-make-room
     mul-make-room-2
     make-room-requires
-    mul-put-path
-    put-path-requires
+    mul-store-path
+    store-path-requires
     add-numbers
     element-write-numbers
     returns)

@@ -65,11 +65,11 @@ slice-aggregate-put-bytes c = search needs
 put-bytes-requires : tie.Need-put-bytes-requires
 put-bytes-requires c κs = search needs
 
-add-put-links : tie.Need-add-put-links
-add-put-links c = search needs
+add-put-path-links : tie.Need-add-put-path-links
+add-put-path-links c = search needs
 
-put-links-requires : tie.Need-put-links-requires
-put-links-requires c κs = search needs
+put-path-links-requires : tie.Need-put-path-links-requires
+put-path-links-requires c κs = search needs
 
 same-length : tie.Need-same-length
 same-length c = search needs
@@ -81,7 +81,7 @@ returns-5 c =
     let s = p .before .before .before .before .before .before .before in
     let w = s .before .before in
     let a = w .before .before .before .args in
-    path-puts (a .paths .now) (a .n) (w .wide .ensures .0) (s .before .if1 .left) (s .if2 .left) (p .put-bytes .ensures) (k .put-links .ensures)
+    path-puts (a .paths .now) (a .n) (w .wide .ensures .0) (s .before .if1 .left) (s .if2 .left) (p .put-bytes .ensures) (k .put-path-links .ensures)
 
 pub put-path-spec : {M : Type 1} → statement M
 put-path-spec =
@@ -103,7 +103,7 @@ put-path-spec =
     add-t22
     slice-aggregate-put-bytes
     put-bytes-requires
-    add-put-links
-    put-links-requires
+    add-put-path-links
+    put-path-links-requires
     same-length
     returns-5)

@@ -27,8 +27,8 @@ add-head c = search needs
 wrapping-add-u64-requires : tie.Need-wrapping-add-u64-requires
 wrapping-add-u64-requires c κs = search needs
 
-put-word-requires : tie.Need-put-word-requires
-put-word-requires c κs = search needs
+put-eight-requires : tie.Need-put-eight-requires
+put-eight-requires c κs = search needs
 
 same-length : tie.Need-same-length
 same-length c = search needs
@@ -39,7 +39,7 @@ returns c =
     let b = c .before .before .before in
     let a = b .before .before .before .args in
     let w = b .wrapping-add-u64 in
-    let p = c .before .before .put-word .ensures in
+    let p = c .before .before .put-eight .ensures in
     (λ o x i< f is. full-puts (a .clock) (a .kind) o (a .v) (a .word) (w .result) x i< f is (search needs) (search needs) (w .ensures) p, p .next)
 
 pub put-full-spec : {M : Type 1} → statement M
@@ -53,6 +53,6 @@ put-full-spec =
     mul-head
     add-head
     wrapping-add-u64-requires
-    put-word-requires
+    put-eight-requires
     same-length
     returns)

@@ -12,7 +12,8 @@ use Rattle.rules_box.specs.declared.Answer.{Answer}
 use Rattle.rules_box.specs.declared.Watchdog.{Watchdog}
 use Rattle.rules_box.specs.Answer.{Values, values}
 use Rattle.run_events.specs.Values.{listed}
-use Rattle.box_calls.specs.Calls.{Memory, memory, withRun, Steps, StepLeaves}
+use Rattle.box_calls.specs.Calls.{Memory, memory, withRun, StepLeaves}
+use Rattle.memory_run.specs.Memory.{Steps}
 use Rattle.script_answers.specs.Texts.{eventLine, outLine, Prints}
 use Rattle.script_desk.specs.Replay.{Kept, kept, Stepped, HeldIn, WrittenOut, Answers}
 use Rattle.script_desk.proofs.answer.Rooms.{zeros, lent-size, back}

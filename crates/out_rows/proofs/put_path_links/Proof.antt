@@ -1,4 +1,4 @@
--- `writing_rows::put_links` meets its contract. The loop's invariant: the first i links are put. Assumes nothing.
+-- `writing_rows::put_path_links` meets its contract. The loop's invariant: the first i links are put. Assumes nothing.
 use mathlib.Core.Path.{refl}
 use Prim.Native.Nat.{_+_, _-_, _≤_}
 use native.Mathlib.Omega.{arith}
@@ -8,8 +8,8 @@ use Rattle.lists.specs.Stores.{Put}
 use Rattle.lists.specs.laws.Stores.{put-length}
 use Rattle.out_rows.specs.Out.{linksFrom}
 use Rattle.out_rows.proofs.Parts.{links-more, links-all}
-use Rattle.out_rows.proofs.put_links.Statement.{statement}
-use Rattle.out_rows.proofs.put_links.Tie as tie
+use Rattle.out_rows.proofs.put_path_links.Statement.{statement}
+use Rattle.out_rows.proofs.put_path_links.Tie as tie
 
 abbrev Inv-loop : tie.InvT-loop
 Inv-loop out₀ at paths start count i₀ out i = (i ≤ count) × Put out₀ at (linksFrom paths start i) out (at + i)
@@ -69,8 +69,8 @@ returns-2 c =
     let a = l .before .args in
     links-all (a .paths .now) (a .start) (l .loop .i) (l .loop .inv .1) (a .count) (search needs)
 
-pub put-links-spec : {M : Type 1} → statement M
-put-links-spec =
+pub put-path-links-spec : {M : Type 1} → statement M
+put-path-links-spec =
     tie.close
     (tie.spec
     Inv-loop

@@ -1,4 +1,4 @@
--- `paths::put_path` meets its contract: behind the first three bytes stand the first k of the eight places for links.
+-- `paths::store_path` meets its contract: behind the first three bytes stand the first k of the eight places for links.
 use mathlib.Core.Path.{_≡_, refl, sym, _∙_}
 use mathlib.Core.Logic.{⊎-elim}
 use mathlib.Core.List.{List, [], _∷_}
@@ -15,8 +15,8 @@ use Rattle.lists.specs.laws.Moved.{paste-behind}
 use Rattle.rules_plan.specs.Plan.{nth}
 use Rattle.memory_plan.specs.Memory.{pathRow}
 use Rattle.load_paths.specs.Keep.{route}
-use Rattle.load_paths.proofs.put_path.Statement.{statement}
-use Rattle.load_paths.proofs.put_path.Tie as tie
+use Rattle.load_paths.proofs.store_path.Statement.{statement}
+use Rattle.load_paths.proofs.store_path.Tie as tie
 
 -- the first three bytes
 first-three : (p : List ℕ) (at i t n : ℕ) → at + 3 ≤ length p → set (set (set p at i) (at + 1) t) (at + 2) n ≡ paste p at (i ∷ t ∷ n ∷ []) 3
@@ -108,8 +108,8 @@ returns c = λ e.
     let k : l .loop .k ≡ 8 = omega arith in
     (rw k at (l .loop .inv .1 (simp length-set e))) ∙ eleven (a .paths .now) (a .links .now) (a .at) (a .initiator) (a .target) (omega arith) (omega arith)
 
-pub put-path-spec : {M : Type 1} → statement M
-put-path-spec =
+pub store-path-spec : {M : Type 1} → statement M
+store-path-spec =
     tie.close
     (tie.spec
     Inv-loop

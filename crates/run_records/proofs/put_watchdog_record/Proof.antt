@@ -1,9 +1,9 @@
--- `put_watchdog` meets its contract. Assumes nothing.
+-- `put_watchdog_record` meets its contract. Assumes nothing.
 use native.Mathlib.Omega.{arith}
 use Rattle.run_records.proofs.Laws.{plain-next, watchdog-early, watchdog-late, watchdog-none}
 use borrow.Author.Needs.{needs}
-use Rattle.run_records.proofs.put_watchdog.Statement.{statement}
-use Rattle.run_records.proofs.put_watchdog.Tie as tie
+use Rattle.run_records.proofs.put_watchdog_record.Statement.{statement}
+use Rattle.run_records.proofs.put_watchdog_record.Tie as tie
 
 is-early-requires : tie.Need-is-early-requires
 is-early-requires c κs = search needs
@@ -50,8 +50,8 @@ returns-3 c =
     in
     (p, λ _. omega arith)
 
-pub put-watchdog-spec : {M : Type 1} → statement M
-put-watchdog-spec =
+pub put-watchdog-record-spec : {M : Type 1} → statement M
+put-watchdog-record-spec =
     tie.close
     (tie.spec
     is-early-requires

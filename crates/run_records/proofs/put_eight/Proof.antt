@@ -1,8 +1,8 @@
--- `put_word` meets its contract. Assumes nothing.
+-- `put_eight` meets its contract. Assumes nothing.
 use borrow.Author.Needs.{needs}
 use Rattle.run_records.specs.Bytes.{bytesOf}
-use Rattle.run_records.proofs.put_word.Statement.{statement}
-use Rattle.run_records.proofs.put_word.Tie as tie
+use Rattle.run_records.proofs.put_eight.Statement.{statement}
+use Rattle.run_records.proofs.put_eight.Tie as tie
 
 cast-t6 : tie.Need-cast-t6
 cast-t6 c = search needs
@@ -41,8 +41,8 @@ returns : tie.Need-returns
 unfolding bytesOf
 returns c = search needs
 
-pub put-word-spec : {M : Type 1} → statement M
-put-word-spec =
+pub put-eight-spec : {M : Type 1} → statement M
+put-eight-spec =
     tie.close
     (tie.spec
     cast-t6

@@ -1,11 +1,11 @@
--- `put_sequence` meets its contract. Assumes nothing.
+-- `put_sequence_record` meets its contract. Assumes nothing.
 use mathlib.Core.Path.{refl}
 use native.Mathlib.Omega.{arith}
 use Rattle.lists.specs.laws.Bools.{not-both}
 use Rattle.run_records.proofs.Laws.{plain-next, sequence-in, sequence-out}
 use borrow.Author.Needs.{needs}
-use Rattle.run_records.proofs.put_sequence.Statement.{statement}
-use Rattle.run_records.proofs.put_sequence.Tie as tie
+use Rattle.run_records.proofs.put_sequence_record.Statement.{statement}
+use Rattle.run_records.proofs.put_sequence_record.Tie as tie
 
 returns : tie.Need-returns
 returns c =
@@ -25,5 +25,5 @@ returns-2 c =
     let p = c .before .before .put-plain .ensures in
     (rw (d .if1 .left) (sequence-out (a .clock) (a .v) p), plain-next (a .clock) 3 (a .v) p, λ t. not-both t (d .if1 .left))
 
-pub put-sequence-spec : {M : Type 1} → statement M
-put-sequence-spec = tie.close (tie.spec returns put-plain-requires same-length returns-2)
+pub put-sequence-record-spec : {M : Type 1} → statement M
+put-sequence-record-spec = tie.close (tie.spec returns put-plain-requires same-length returns-2)
