@@ -88,14 +88,14 @@ fn shift(places: &mut [u64], k: usize)
     ensures { λ r. ⌜ now (places .exit) ≡ without k (now (places .entry)) ++ 0 ∷ [] ⌝ }
 {
     let mut j = 0;
-    while j < PLACES - 1 {
+    while j < LAST_PLACE {
         let next = j + 1;
         if k <= j {
             places[j] = places[next];
         }
         j = next;
     }
-    places[PLACES - 1] = 0;
+    places[LAST_PLACE] = 0;
 }
 
 // The same. Most often the oldest leaves, and for place 0 the compiler makes one move of all places, with no test.

@@ -12,10 +12,10 @@ use Rattle.run_timecodes.proofs.time.run_on.Tie as tie
 in-sequence-requires : tie.Need-in-sequence-requires
 in-sequence-requires c κs = search needs
 
-put-watchdog-record-requires : tie.Need-put-watchdog-record-record-requires
+put-watchdog-record-requires : tie.Need-put-watchdog-record-requires
 put-watchdog-record-requires c κs = search needs
 
-put-sequence-record-requires : tie.Need-put-sequence-record-record-requires
+put-sequence-record-requires : tie.Need-put-sequence-record-requires
 put-sequence-record-requires c κs = search needs
 
 report-late-requires : tie.Need-report-late-requires

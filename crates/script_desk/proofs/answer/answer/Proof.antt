@@ -86,7 +86,7 @@ cast-write-out c = search needs
 
 write-out-requires : tie.Need-write-out-requires
 write-out-requires c κs =
-    let e = c .before .before .before .before .before .before .before .before .before .before in
+    let e = c .before .before .before .before .before .before .before .before .before in
     let m = e .before .before in
     out-within (m .before .before .args .line .now) 0 (m .command-of .ensures) (e .command6 .given .1)
 
@@ -167,10 +167,10 @@ returns-8 c =
 
 returns-9 : tie.Need-returns-9
 returns-9 c =
-    let e = c .before .before .before .before .before .before .before .before .before .before .before in
+    let e = c .before .before .before .before .before .before .before .before .before .before in
     let m = e .before .before in
     let a = m .before .before .args in
-    out (a .line .now) (a .number) (m .command-of .ensures) _ (e .command6 .given .1) (c .write-out .ensures (a .run .now) (a .last .now))
+    out (a .line .now) (a .number) (m .command-of .ensures) _ (e .command6 .given .1) (c .write-out .ensures (a .reach .now) (a .run .now) (a .last .now))
 
 returns-10 : tie.Need-returns-10
 returns-10 c =

@@ -12,7 +12,7 @@ numbers-of-requires c κs = search needs
 
 returns : tie.Need-returns
 returns c =
-    let s = c .before .before .before in
+    let s = c .before .before in
     loads (s .load .ensures) (c .before .numbers-of .ensures)
 
 pub load-with-spec : {M : Type 1} → statement M
