@@ -11,6 +11,7 @@ pub const WAITING: usize = 1;
 pub const LINE: usize = 2;
 
 pub const PLACES: usize = 8;
+
 pub const LAST_PLACE: usize = 7;
 
 pub const LIVE: usize = 10;
