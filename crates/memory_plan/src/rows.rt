@@ -9,7 +9,7 @@ use crate::at_most;
 use crate::layout::*;
 
 // The first of all eight rows that has initiator i; 8 where none has it.
-fn first_row(rows: &Rows, i: u8) -> usize
+pub fn first_row(rows: &Rows, i: u8) -> usize
     ensures { λ r. ⌜ r ≡ firstFrom 8 0 (λ (k : ℕ). eqb i (nth (now (rows .entry)) k)) ⌝ }
 {
     let mut k = 0;

@@ -4,6 +4,7 @@ use mathlib.Core.List.{List}
 use mathlib.Core.Option.{some}
 use mathlib.Core.Bool.{Bool, true, false}
 use Prim.Native.Nat.{ℕ, _≤_, _<_, min}
+use native.Mathlib.Decide.{decLt}
 use native.Mathlib.Omega.{arith}
 use lib.ListN.{length}
 use lib.Dec.{eqb}
@@ -25,6 +26,29 @@ use Rattle.memory_plan.specs.laws.InRows.{of-row}
 -- row k is that of i
 abbrev pub isRow : List ℕ → ℕ → ℕ → Bool
 isRow rows i k = eqb i (nth rows k)
+
+module _ (t : ℕ → Bool) (m n : ℕ) (h : m ≤ n) where
+  some-first : Finds m 0 t (firstFrom m 0 t)
+  some-first = first-from m 0 t
+
+  all-first : Finds n 0 t (firstFrom n 0 t)
+  all-first = first-from n 0 t
+
+  -- the search through the first m of n ends where that through all of them does, or behind them
+  pub first-behind : m < firstFrom n 0 t → m ≡ firstFrom m 0 t
+  first-behind l = go (decLt (firstFrom m 0 t) m)
+    where
+      go : Dec (firstFrom m 0 t < m) → m ≡ firstFrom m 0 t
+      go (yes g) = not-both (some-first .found (omega arith)) (all-first .before _ (omega arith) (omega arith))
+      go (no g) = omega (arith, some-first .upto)
+
+  pub first-among : firstFrom n 0 t ≤ m → firstFrom n 0 t ≡ firstFrom m 0 t
+  first-among l = go (decLt (firstFrom m 0 t) (firstFrom n 0 t)) (decLt (firstFrom n 0 t) (firstFrom m 0 t))
+    where
+      go : Dec (firstFrom m 0 t < firstFrom n 0 t) → Dec (firstFrom n 0 t < firstFrom m 0 t) → firstFrom n 0 t ≡ firstFrom m 0 t
+      go (yes g) _ = not-both (some-first .found (omega arith)) (all-first .before _ (omega arith) g)
+      go (no g) (yes k) = not-both (all-first .found (omega (arith, some-first .upto))) (some-first .before _ (omega arith) k)
+      go (no g) (no k) = omega arith
 
 -- the search ends by the eighth row at the latest
 pub row-most : (rows : List ℕ) (count i r : ℕ) → r ≡ firstFrom (min count 8) 0 (isRow rows i) → r ≤ 8
