@@ -7,4 +7,5 @@ pub mod OneMemory
 pub mod BlankMemory
 pub mod Among
 pub mod Rows
+pub mod RowFor
 pub mod Entries

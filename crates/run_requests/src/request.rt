@@ -15,7 +15,7 @@ use crate::asking::may_start;
 use crate::no_row::no_row;
 use memory_plan::entry::least_span;
 use memory_plan::layout::*;
-use memory_plan::row::row_for;
+use memory_plan::rows::first_row;
 use memory_run::layout::*;
 use rules_box::Answer;
 
@@ -45,8 +45,12 @@ pub fn request(
     ensures { λ r. ⌜ ((b : Box) (last : List ℕ) → Finds b (now (rows .entry)) (now (spans .entry)) (now (aims .entry)) (now (numbers .entry)) (now (run .entry)) last →
         (room : ℕ) (w : Watchdog) → Answers (rules.step room b w (Request initiator target kind length)) r (now (run .exit)) last) ⌝ }
 {
-    let row = row_for(rows, numbers, initiator);
+    // The tests of row_for stand here: a branch is foretold, where all that follows would wait for the row that it answers.
+    let row = first_row(rows, initiator);
     if ROWS <= row {
+        return no_row(numbers);
+    }
+    if numbers[INITIATORS] <= row as u32 {
         return no_row(numbers);
     }
     if 1 < kind {

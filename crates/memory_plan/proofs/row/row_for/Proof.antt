@@ -3,7 +3,7 @@ use native.Mathlib.Omega.{arith}
 use borrow.Author.Needs.{needs}
 use Rattle.lists.specs.laws.Numbers.{first-from}
 use Rattle.memory_plan.specs.laws.Among.{isRow}
-use Rattle.memory_plan.proofs.row.Laws.{row-told, none-told}
+use Rattle.memory_plan.specs.laws.RowFor.{row-told, none-told}
 use Rattle.memory_plan.proofs.row.row_for.Statement.{statement}
 use Rattle.memory_plan.proofs.row.row_for.Tie as tie
 

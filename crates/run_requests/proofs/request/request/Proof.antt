@@ -4,26 +4,50 @@ use native.Mathlib.Omega.{arith}
 use borrow.Author.Tests.{not-true, not-false}
 use Rattle.run_requests.proofs.request.Asks.{stranger, other-kind, barred, asks}
 use borrow.Author.Needs.{needs}
+use Rattle.memory_plan.specs.laws.RowFor.{row-told, none-told, none-behind}
 use Rattle.run_requests.proofs.request.request.Statement.{statement}
 use Rattle.run_requests.proofs.request.request.Tie as tie
 
-row-for-requires : tie.Need-row-for-requires
-row-for-requires c κs = search needs
+first-row-requires : tie.Need-first-row-requires
+first-row-requires c κs = search needs
 
 no-row-requires : tie.Need-no-row-requires
 no-row-requires c κs = search needs
 
 returns : tie.Need-returns
 returns c =
-    let r = c .before .before .row-for in
+    let r = c .before .before .first-row in
     let a = c .before .before .before .before .args in
-    λ b last f room w. stranger f room w (a .initiator) (a .target) (a .kind) (a .length) (r .result) (r .ensures) (c .before .if1 .taken) (c .no-row .result) (c .no-row .ensures)
+    λ b last f room w.
+    stranger f room w (a .initiator) (a .target) (a .kind) (a .length) 8
+    (λ size p ok rs ns. none-behind p ok size (a .rows .now) (a .numbers .now) rs ns (a .initiator) (r .result) (r .ensures) (c .before .if1 .taken)) (omega arith)
+    (c .no-row .result) (c .no-row .ensures)
+
+element-copy-out-if2 : tie.Need-element-copy-out-if2
+element-copy-out-if2 c = search needs
+
+cast-if2 : tie.Need-cast-if2
+cast-if2 c = omega arith
+
+no-row-requires-2 : tie.Need-no-row-requires-2
+no-row-requires-2 c κs = search needs
 
 returns-2 : tie.Need-returns-2
 returns-2 c =
-    let r = c .before .before .row-for in
-    let a = c .before .before .before .before .args in
-    λ b last f room w. other-kind f room w (a .initiator) (a .target) (a .kind) (a .length) (r .result) (r .ensures) (omega arith) (c .if2 .taken)
+    let r = c .before .before .before .before .first-row in
+    let a = c .before .before .before .before .before .before .args in
+    λ b last f room w.
+    stranger f room w (a .initiator) (a .target) (a .kind) (a .length) 8
+    (λ size p ok rs ns. none-told p ok size (a .rows .now) (a .numbers .now) rs ns (a .initiator) (r .result) (r .ensures) (c .before .if2 .taken)) (omega arith)
+    (c .no-row2 .result) (c .no-row2 .ensures)
+
+returns-3 : tie.Need-returns-3
+returns-3 c =
+    let r = c .before .before .before .before .first-row in
+    let a = c .before .before .before .before .before .before .args in
+    λ b last f room w.
+    other-kind f room w (a .initiator) (a .target) (a .kind) (a .length) (r .result)
+    (λ size p ok rs ns. row-told p ok size (a .rows .now) (a .numbers .now) rs ns (a .initiator) (r .result) (r .ensures) (c .before .if2 .left)) (omega arith) (c .if3 .taken)
 
 least-span-requires : tie.Need-least-span-requires
 least-span-requires c κs = search needs
@@ -34,15 +58,18 @@ may-start-requires c κs = search needs
 not-permitted-requires : tie.Need-not-permitted-requires
 not-permitted-requires c κs = search needs
 
-returns-3 : tie.Need-returns-3
-returns-3 c =
+returns-4 : tie.Need-returns-4
+returns-4 c =
     let y = c .before .before .may-start in
     let n = c .before .before .before .least-span in
-    let r = c .before .before .before .before .before .before .row-for in
-    let a = c .before .before .before .before .before .before .before .before .args in
+    let e = c .before .before .before .before .before .if2 in
+    let r = c .before .before .before .before .before .before .before .before .first-row in
+    let a = c .before .before .before .before .before .before .before .before .before .before .args in
     λ b last f room w.
-    barred f room w (a .initiator) (a .target) (a .kind) (a .length) (r .result) (r .ensures) (omega arith) (omega arith) (n .result) (n .ensures) (y .result) (y .ensures)
-    (not-true _ (c .before .if3 .taken)) (c .not-permitted .result) (c .not-permitted .ensures)
+    barred f room w (a .initiator) (a .target) (a .kind) (a .length) (r .result)
+    (λ size p ok rs ns. row-told p ok size (a .rows .now) (a .numbers .now) rs ns (a .initiator) (r .result) (r .ensures) (e .left))
+    (omega arith) (omega arith) (n .result) (n .ensures) (y .result) (y .ensures)
+    (not-true _ (c .before .if4 .taken)) (c .not-permitted .result) (c .not-permitted .ensures)
 
 mul-ask-row : tie.Need-mul-ask-row
 mul-ask-row c = search needs
@@ -71,30 +98,37 @@ ask-row-requires c κs = search needs
 same-length : tie.Need-same-length
 same-length c = search needs
 
-returns-4 : tie.Need-returns-4
-returns-4 c =
+returns-5 : tie.Need-returns-5
+returns-5 c =
     let m = c .before .before .ask-row in
     let y = c .before .before .before .before .before .may-start in
     let n = c .before .before .before .before .before .before .least-span in
-    let r = c .before .before .before .before .before .before .before .before .before .row-for in
-    let a = c .before .before .before .before .before .before .before .before .before .before .before .args in
-    let size = r .result * 12 + 12 - r .result * 12 in
+    let e = c .before .before .before .before .before .before .before .before .if2 in
+    let r = c .before .before .before .before .before .before .before .before .before .before .before .first-row in
+    let a = c .before .before .before .before .before .before .before .before .before .before .before .before .before .args in
+    let whole = r .result * 12 + 12 - r .result * 12 in
     λ b last f room w.
-    asks f room w (a .initiator) (a .target) (a .kind) (a .length) (r .result) (r .ensures) (omega arith) (omega arith) (n .result) (n .ensures) (y .result) (y .ensures)
-    (not-false _ (c .before .before .before .before .if3 .left)) (m .result) size (m .last .0) (omega arith) (m .ensures)
+    asks f room w (a .initiator) (a .target) (a .kind) (a .length) (r .result)
+    (λ size p ok rs ns. row-told p ok size (a .rows .now) (a .numbers .now) rs ns (a .initiator) (r .result) (r .ensures) (e .left))
+    (omega arith) (omega arith) (n .result) (n .ensures) (y .result) (y .ensures)
+    (not-false _ (c .before .before .before .before .if4 .left)) (m .result) whole (m .last .0) (omega arith) (m .ensures)
 
 pub request-spec : {M : Type 1} → statement M
 request-spec =
     tie.close
     (tie.spec
-    row-for-requires
+    first-row-requires
     no-row-requires
     returns
+    element-copy-out-if2
+    cast-if2
+    no-row-requires-2
     returns-2
+    returns-3
     least-span-requires
     may-start-requires
     not-permitted-requires
-    returns-3
+    returns-4
     mul-ask-row
     mul-ask-row-2
     add-ask-row
@@ -104,4 +138,4 @@ request-spec =
     part-ask-row-end
     ask-row-requires
     same-length
-    returns-4)
+    returns-5)

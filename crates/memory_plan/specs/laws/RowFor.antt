@@ -1,4 +1,4 @@
--- What the rows tell of the initiators of a sound plan.
+-- What the search through the rows tells of the row of an initiator.
 use mathlib.Core.Path.{_≡_, refl, sym, _∙_}
 use mathlib.Core.List.{List}
 use mathlib.Core.Bool.{Bool, true, false}
@@ -48,3 +48,6 @@ module _ (p : Plan) (ok : Sound p) (size : ℕ) (rows numbers : List ℕ) (rs : 
       go : (b : Bool) → isInitiator p i ≡ b → b ≡ false
       go true e = sym e ∙ row-none p (ok .eight) rows rs (nth numbers 2) all i most (behind h) (ok .small i e) (omega (arith, all, ok .eight))
       go false e = refl
+
+  pub none-behind : 8 ≤ r → 8 ≡ rowFor p i
+  none-behind h = none-told (omega (arith, all, ok .eight))
