@@ -2,13 +2,11 @@
 use mathlib.Core.Path.{_≡_, refl, sym, ap, _∙_}
 use mathlib.Core.Logic.{_≢_, _↔_}
 use mathlib.Core.List.{List}
-use mathlib.Core.Option.{Option, none, some}
 use mathlib.Core.Bool.{Bool, true, false, cond}
 use Prim.Native.Nat.{ℕ}
 use lib.Dec.{eqb}
 use borrow.Author.Tests.{eqb-true, eq-eqb}
-use Rattle.lists.specs.laws.Bools.{none-some, some-some}
-use Rattle.rules_plan.specs.Plan.{nth, Plan, blank}
+use Rattle.rules_plan.specs.Plan.{nth, blank}
 use Rattle.rules_plan.specs.Verdict.{number}
 use Rattle.rules_plan.specs.Judge.{judge}
 use Rattle.rules_plan.specs.Canon.{given, planOf}
@@ -16,9 +14,7 @@ use Rattle.rules_plan.specs.laws.Accepted.{accepted-good}
 use Rattle.memory_plan.specs.Memory.{numbersOf, Holds}
 use Rattle.memory_plan.specs.laws.BlankMemory.{holds-blank, good-not-blank}
 use Rattle.memory_plan.specs.laws.SameMemory.{holds-canonical}
-use Rattle.memory_plan.specs.laws.OneMemory.{one-memory}
-use Rattle.memory_plan.specs.Held.{Held}
-use Rattle.load_plan.specs.Load.{left}
+use Rattle.load_plan.specs.Load.{left, HoldsPlanOf}
 use Rattle.lists.specs.laws.Answers.{decides}
 
 abbrev Same : (sets ends rows reach paths spans aims numbers sets′ ends′ rows′ reach′ paths′ spans′ aims′ numbers′ : List ℕ) → Type 0
@@ -75,16 +71,12 @@ module _ (file : List ℕ) {sets′ ends′ rows′ reach′ paths′ spans′ a
           ),
         )
 
-    same-held : (o : Option Plan) → Held o sets ends rows reach paths spans aims numbers
-        → Same sets ends rows reach paths spans aims numbers sets′ ends′ rows′ reach′ paths′ spans′ aims′ numbers′ ↔ ((number (judge file) ≡ 0) × (o ≡ some (planOf file)))
+    same-plan : Same sets ends rows reach paths spans aims numbers sets′ ends′ rows′ reach′ paths′ spans′ aims′ numbers′ ↔ HoldsPlanOf file sets ends rows reach paths spans aims numbers
     unfolding planOf
-    same-held none h = (λ s. absurd (has-interval e (blank-none (sym (s .7) ∙ h .numbers))), λ q. none-some (q .1))
-    same-held (some p) h =
-        let g = accepted-good file e in (
-          λ s. (e, ap some (sym (h .ordered) ∙ one-memory p (given file) (h .good) g sets ends rows reach paths spans aims numbers (h .holds) ((same-holds .0) s))),
-          λ q. (same-holds .1) ((holds-canonical (given file) g sets ends rows reach paths spans aims numbers) .1 (rw (some-some (q .1)) at (h .holds))),
-        )
+    same-plan =
+        let canon = holds-canonical (given file) (accepted-good file e) sets ends rows reach paths spans aims numbers in
+        (λ s. (e, (canon .0) ((same-holds .0) s)), λ q. (same-holds .1) ((canon .1) (q .1)))
 
   pub reread : {r : Bool} {sets ends rows reach paths spans aims numbers : List ℕ} → (r ≡ true) ↔ Same sets ends rows reach paths spans aims numbers sets′ ends′ rows′ reach′ paths′ spans′ aims′ numbers′
-      → nth numbers′ 1 ≢ 0 → (o : Option Plan) → Held o sets ends rows reach paths spans aims numbers → (r ≡ true) ↔ ((number (judge file) ≡ 0) × (o ≡ some (planOf file)))
-  reread says n o h = let i = same-held _ _ _ _ _ _ _ _ (accepted n) o h in decides says (i .0) (i .1)
+      → nth numbers′ 1 ≢ 0 → (r ≡ true) ↔ HoldsPlanOf file sets ends rows reach paths spans aims numbers
+  reread says n = let i = same-plan _ _ _ _ _ _ _ _ (accepted n) in decides says (i .0) (i .1)

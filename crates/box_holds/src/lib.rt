@@ -2,14 +2,8 @@
 ghost use mathlib.Core.Path.{_≡_};
 ghost use mathlib.Core.Logic.{_↔_};
 ghost use mathlib.Core.Bool.{true};
-ghost use mathlib.Core.Option.{Option, some};
-ghost use Rattle.rules_plan.specs.Plan.{Plan};
-ghost use Rattle.rules_plan.specs.Verdict.{number};
-ghost use Rattle.rules_plan.specs.Judge.{judge};
-ghost use Rattle.rules_plan.specs.Canon.{planOf};
 ghost use Rattle.memory_plan.specs.Memory.{Holds};
-ghost use Rattle.load_plan.specs.Load.{left};
-ghost use Rattle.memory_plan.specs.Held.{Held};
+ghost use Rattle.load_plan.specs.Load.{left, HoldsPlanOf};
 ghost use Rattle.memory_plan.specs.Lent.{atEntry, atExit};
 use memory_plan::interval::is_loaded;
 use memory_plan::layout::*;
@@ -61,7 +55,8 @@ fn same_plan(
     lists::numbers::same(numbers, other_numbers)
 }
 
-// True exactly where the file is accepted and the box holds its plan. The memory beside the box's has the file's plan afterwards.
+// True exactly where the file is accepted and memory is that of its plan, every number of it, whatever memory is lent. The memory beside the
+// box's has the file's plan afterwards.
 pub fn holds(
     file: &[u8],
     sets: &Sets,
@@ -81,8 +76,7 @@ pub fn holds(
     other_aims: &mut Aims,
     other_numbers: &mut Numbers,
 ) -> bool
-    ensures { λ r. ⌜ ((o : Option Plan) → atEntry (Held o) sets ends rows reach paths spans aims numbers →
-        (r ≡ true) ↔ ((number (judge (now (file .entry))) ≡ 0) × (o ≡ some (planOf (now (file .entry)))))) ⌝ }
+    ensures { λ r. ⌜ (r ≡ true) ↔ atEntry (HoldsPlanOf (now (file .entry))) sets ends rows reach paths spans aims numbers ⌝ }
     ensures { λ r. ⌜ atExit (Holds (left (now (file .entry)))) «other_sets» «other_ends» «other_rows» «other_reach» «other_paths» «other_spans» «other_aims» «other_numbers» ⌝ }
 {
     load_plan::load::load(

@@ -1,4 +1,5 @@
 -- What a load leaves: the plan of an accepted file, and of any other file none.
+use mathlib.Core.Path.{_≡_}
 use Prim.Native.Nat.{ℕ}
 use mathlib.Core.List.{List}
 use mathlib.Core.Option.{Option, none, some}
@@ -8,6 +9,7 @@ use Rattle.rules_plan.specs.Plan.{Plan, blank}
 use Rattle.rules_plan.specs.Verdict.{number}
 use Rattle.rules_plan.specs.Judge.{judge}
 use Rattle.rules_plan.specs.Canon.{given, planOf}
+use Rattle.memory_plan.specs.Memory.{Holds}
 
 -- in the file's order
 unfoldable pub left : List ℕ → Plan
@@ -16,3 +18,7 @@ left s = cond (eqb (number (judge s)) 0) (given s) blank
 -- in canonical order
 unfoldable pub kept : List ℕ → Option Plan
 kept s = cond (eqb (number (judge s)) 0) (some (planOf s)) none
+
+-- the file is accepted, and memory is that of its plan, every number of it
+abbrev pub HoldsPlanOf : (file sets ends rows reach paths spans aims numbers : List ℕ) → Type 0
+HoldsPlanOf file sets ends rows reach paths spans aims numbers = (number (judge file) ≡ 0) × Holds (planOf file) sets ends rows reach paths spans aims numbers

@@ -3,18 +3,12 @@ use mathlib.Core.Path.{_≡_, refl}
 use mathlib.Core.Logic.{_↔_}
 use mathlib.Core.Bool.{Bool, true, false}
 use mathlib.Core.List.{List}
-use mathlib.Core.Option.{Option, some}
 use Prim.Native.Nat.{ℕ, _≤_}
 use native.Mathlib.Omega.{arith}
 use mir.Val.{boolByte}
 use Rattle.lists.specs.laws.Bools.{not-both}
-use Rattle.rules_plan.specs.Plan.{Plan}
-use Rattle.rules_plan.specs.Verdict.{number}
-use Rattle.rules_plan.specs.Judge.{judge}
-use Rattle.rules_plan.specs.Canon.{planOf}
 use Rattle.memory_plan.specs.Memory.{Holds}
-use Rattle.memory_plan.specs.Held.{Held}
-use Rattle.load_plan.specs.Load.{left}
+use Rattle.load_plan.specs.Load.{left, HoldsPlanOf}
 use Rattle.rules_box.specs.declared.Watchdog.{Watchdog}
 use Rattle.rules_box.specs.State.{cleared, watchdogCleared}
 use Rattle.box_calls.specs.Calls.{Memory, At}
@@ -32,7 +26,7 @@ pub is-blank : (m : Memory) {w : Watchdog} (b : Bool) → (b ≡ true) ↔ ((w �
 is-blank m b f = record { most = at-most-1 b; says = as-number b f }
 
 pub holds-it : {file sets ends rows reach paths spans aims numbers sets′ ends′ rows′ reach′ paths′ spans′ aims′ numbers′ : List ℕ} (b : Bool)
-    → ((o : Option Plan) → Held o sets ends rows reach paths spans aims numbers → (b ≡ true) ↔ ((number (judge file) ≡ 0) × (o ≡ some (planOf file))))
+    → (b ≡ true) ↔ HoldsPlanOf file sets ends rows reach paths spans aims numbers
     → Holds (left file) sets′ ends′ rows′ reach′ paths′ spans′ aims′ numbers′
     → HoldsIt file (boolByte b) sets ends rows reach paths spans aims numbers sets′ ends′ rows′ reach′ paths′ spans′ aims′ numbers′
-holds-it b f h = record { most = at-most-1 b; says = λ o held. as-number b (f o held); beside = h }
+holds-it b f h = record { most = at-most-1 b; says = as-number b f; beside = h }

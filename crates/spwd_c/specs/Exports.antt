@@ -5,17 +5,15 @@ use mathlib.Core.Logic.{_↔_}
 use mathlib.Core.Bool.{Bool, true, false}
 use Prim.Native.Nat.{ℕ, _≤_}
 use mathlib.Core.List.{List, _++_}
-use mathlib.Core.Option.{Option, some}
+use mathlib.Core.Option.{Option}
 use lib.ListN.{length, drop}
 use Rattle.rules_plan.specs.Plan.{Plan}
-use Rattle.rules_plan.specs.Verdict.{number}
 use Rattle.rules_plan.specs.Judge.{judge}
-use Rattle.rules_plan.specs.Canon.{planOf}
 use Rattle.rules_plan.specs.Copy.{copyAnswer, copied}
 use Rattle.rules_plan.specs.Print as print
 use Rattle.memory_plan.specs.Memory as plan
 use Rattle.memory_plan.specs.Held.{Held}
-use Rattle.load_plan.specs.Load.{left}
+use Rattle.load_plan.specs.Load.{left, HoldsPlanOf}
 use Rattle.rules_box.specs.declared.Event.the-variants.{TimeCode, Request, Reply, Reading}
 use Rattle.rules_box.specs.declared.Answer.{Answer}
 use Rattle.rules_box.specs.declared.Watchdog.{Watchdog}
@@ -83,8 +81,9 @@ pub record IsBlank (m : Memory) (w : Watchdog) (r : ℕ) : Type 0 where
   pub most : r ≤ 1
   pub says : (r ≡ 1) ↔ ((w ≡ watchdogCleared) × At m cleared)
 
--- `spwd_c_holds`: 1 where the file is accepted and the box holds its plan, else 0. The memory beside the box's has the file's plan afterwards.
+-- `spwd_c_holds`: 1 where the file is accepted and memory is that of its plan, every number of it, else 0. The memory beside the box's has
+-- the file's plan afterwards.
 pub record HoldsIt (file : List ℕ) (r : ℕ) (sets ends rows reach paths spans aims numbers sets′ ends′ rows′ reach′ paths′ spans′ aims′ numbers′ : List ℕ) : Type 0 where
   pub most : r ≤ 1
-  pub says : (o : Option Plan) → Held o sets ends rows reach paths spans aims numbers → (r ≡ 1) ↔ ((number (judge file) ≡ 0) × (o ≡ some (planOf file)))
+  pub says : (r ≡ 1) ↔ HoldsPlanOf file sets ends rows reach paths spans aims numbers
   pub beside : plan.Holds (left file) sets′ ends′ rows′ reach′ paths′ spans′ aims′ numbers′

@@ -15,7 +15,7 @@ is-loaded-requires c κs = search needs
 returns : tie.Need-returns
 returns c =
     let m = c .before .before .before .load .ensures .1 in
-    (λ o held. it-is-not (λ q. refused _ m (c .before .is-loaded .ensures .1 .0 (not-true _ (c .if1 .taken))) (q .0)), m)
+    (it-is-not (λ q. refused _ m (c .before .is-loaded .ensures .1 .0 (not-true _ (c .if1 .taken))) (q .0)), m)
 
 same-plan-requires : tie.Need-same-plan-requires
 same-plan-requires c κs = search needs
