@@ -6,6 +6,7 @@ use lib.ListN.{length}
 use denote.Ref.{now}
 use Rattle.rules_plan.specs.declared.Verdict.{Verdict}
 use Rattle.rules_plan.specs.Judge.{judge}
+use Rattle.rules_plan.specs.Good.{Bytes}
 use Rattle.memory_plan.specs.Lent.{Array, atEntry, atExit}
 use Rattle.rules_box.specs.declared.Event.{Event}
 use Rattle.rules_box.specs.declared.Answer.{Answer}
@@ -59,8 +60,9 @@ pub record ClearLeaves (m : Memory) (w : Watchdog) : Type 0 where
   pub holds : At m cleared
   pub five : w ≡ watchdogCleared
 
--- what a load answers and leaves: the contract of `load`
+-- what a load answers and leaves: the contract of `load`. What is lent as a file is bytes.
 pub record LoadLeaves (file : List ℕ) (v : Verdict) (m : Memory) (w : Watchdog) : Type 0 where
+  pub bytes : Bytes file
   pub verdict : v ≡ judge file
   pub holds : At m (loaded file)
   pub five : w ≡ watchdogLoaded file

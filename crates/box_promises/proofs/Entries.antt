@@ -78,7 +78,7 @@ starts-only-at-entries ok permits only before after e answer b came s j low five
       byte = v;
       clock = clock;
       event = is;
-      in-sequence = ((says (before .memory) b h) .next v) .1 (a .in-sequence);
+      in-sequence = ((says (before .memory) b h) .in-sequence v) .1 (a .in-sequence);
       value = value;
       row = row;
       own = ((says (before .memory) b h) .row row (nth bytes 1)) .1 (at ∙ ap some (a .own));

@@ -1,7 +1,7 @@
 -- Memory that came of calls holds the box that the definitions reach by the same calls.
 use mathlib.Core.Path.{_≡_, refl, sym, ap, _∙_}
 use mathlib.Core.List.{List}
-use mathlib.Core.Option.{some}
+use mathlib.Core.Option.{Option, none, some}
 use Prim.Native.Nat.{ℕ}
 use lib.ListN.{length}
 use borrow.Author.Tests.{eqb-true}
@@ -9,11 +9,12 @@ use Rattle.lists.specs.laws.Bools.{none-some, some-some, cond-cases}
 use Rattle.rules_plan.specs.Plan.{Plan}
 use Rattle.rules_plan.specs.Verdict.{number}
 use Rattle.rules_plan.specs.Judge.{judge}
-use Rattle.rules_plan.specs.Canon.{given, planOf}
+use Rattle.rules_plan.specs.Canon.{canonical, given, planOf}
 use Rattle.rules_plan.specs.Good.{Good}
 use Rattle.rules_plan.specs.Promises.{AcceptedIsSound}
 use Rattle.rules_plan.specs.laws.Accepted.{accepted-good}
-use Rattle.rules_plan.specs.laws.Canonical.{good-canonical}
+use Rattle.rules_plan.specs.laws.Canonical.{good-canonical, canonical-twice}
+use Rattle.memory_plan.specs.Held.{Held}
 use Rattle.memory_plan.specs.Memory.{setsOf, endsOf, rowsOf, reachOf, pathsOf, spansOf, aimsOf, numbersOf}
 use Rattle.memory_plan.specs.laws.BlankMemory.{good-greatest}
 use Rattle.rules_box.specs.declared.Event.{Event}
@@ -41,25 +42,47 @@ plan-stays room b w e = step-cases room b w e (λ (o : Outcome). o .box .plan �
     by (Reply i m status) = refl
     by (Reading clock) = refl
 
--- the plan of a box is a good one
-abbrev HasGood : Box → Type 0
-HasGood b = (p : Plan) → b .plan ≡ some p → Good p
+-- the plan of a box is that of an accepted file
+pub record OfFile (p : Plan) : Type 0 where
+  pub file : List ℕ
+  pub accepted : number (judge file) ≡ 0
+  pub is : p ≡ planOf file
 
+abbrev HasFile : Box → Type 0
+HasFile b = (p : Plan) → b .plan ≡ some p → OfFile p
+
+loaded-file : (file : List ℕ) → HasFile (loaded file)
+unfolding loaded isAccepted holding cleared
+loaded-file file =
+    cond-cases HasFile (isAccepted file) (holding (planOf file)) cleared
+    (λ h p e. record { file = file; accepted = eqb-true (number (judge file)) 0 h; is = sym (some-some e) }) (λ _ p e. none-some e)
+
+pub reached-file : (b : Box) → Reached b → HasFile b
+unfolding cleared
+reached-file b history.by-clear p e = none-some e
+reached-file b (history.by-load file) p e = loaded-file file p e
+reached-file b (history.by-event {b = c} r room w e) p is = reached-file c r p (sym (plan-stays room c w e) ∙ is)
+
+-- so it is a good one, in canonical order
 pub planOf-good : (file : List ℕ) → number (judge file) ≡ 0 → Good (planOf file)
 unfolding planOf
 planOf-good file h = good-canonical (given file) (accepted-good file h)
 
-loaded-good : (file : List ℕ) → HasGood (loaded file)
-unfolding loaded isAccepted holding cleared
-loaded-good file =
-    cond-cases HasGood (isAccepted file) (holding (planOf file)) cleared
-    (λ h p e. rw (← (some-some e)) (planOf-good file (eqb-true (number (judge file)) 0 h))) (λ _ p e. none-some e)
+pub file-ordered : (p : Plan) → OfFile p → canonical p ≡ p
+unfolding planOf
+file-ordered p f = rw (f .is) (canonical-twice (given (f .file)) (accepted-good (f .file) (f .accepted)))
 
 pub reached-good : (b : Box) → Reached b → (p : Plan) → b .plan ≡ some p → Good p
-unfolding cleared
-reached-good b history.by-clear p e = none-some e
-reached-good b (history.by-load file) p e = loaded-good file p e
-reached-good b (history.by-event {b = c} r room w e) p is = reached-good c r p (sym (plan-stays room c w e) ∙ is)
+reached-good b r p e = let f = reached-file b r p e in rw (f .is) (planOf-good (f .file) (f .accepted))
+
+-- memory that holds a reached box is what writing out asks for
+plan-held : (m : Memory) (b : Box) → Reached b → At m b → Held (b .plan) (m .sets) (m .ends) (m .rows) (m .reach) (m .paths) (m .spans) (m .aims) (m .numbers)
+unfolding thePlan
+plan-held m b r at = go (b .plan) refl
+  where
+    go : (o : Option Plan) → b .plan ≡ o → Held o (m .sets) (m .ends) (m .rows) (m .reach) (m .paths) (m .spans) (m .aims) (m .numbers)
+    go none is = rw is at (at .plan)
+    go (some p) is = record { good = reached-good b r p is; ordered = file-ordered p (reached-file b r p is); holds = rw is at (at .plan) }
 
 module _ (ok : AcceptedIsSound) where
   -- memory that holds a reached box is what an event asks for
@@ -112,7 +135,7 @@ module _ (ok : AcceptedIsSound) where
       }
 
   held-by : (m : Memory) (b : Box) → Reached b → At m b → HeldBy m b
-  held-by m b r at = record { reached = r; at = at; finds = finds m b r at }
+  held-by m b r at = record { reached = r; at = at; finds = finds m b r at; plan = plan-held m b r at }
 
   pub held : (m : Memory) (b : Box) → Came m b → HeldBy m b
   held m b (by-clear c) = held-by m b history.by-clear (c .holds)

@@ -1,12 +1,16 @@
 pub mod Held
 pub mod Nothing
 pub mod Verdicts
+pub mod Back
+pub mod Requests
 pub mod Rows
 pub mod Paths
 pub mod Says
 pub mod Links
 pub mod Written
+pub mod Lives
+pub mod Moves
 pub mod InTime
 pub mod Entries
-pub mod Lives
+pub mod Ends
 pub mod All

@@ -1,5 +1,5 @@
 -- Live transactions of two rows have no link in common.
-use mathlib.Core.Path.{_≡_, refl, sym, _∙_}
+use mathlib.Core.Path.{_≡_, refl, sym, ap, _∙_}
 use mathlib.Core.Logic.{_≢_}
 use mathlib.Core.Option.{Option, none, some, Option·map}
 use Prim.Native.Nat.{ℕ, _<_}
@@ -29,6 +29,7 @@ record LiveAt (m : Memory) (b : Box) (r t : ℕ) : Type 0 where
   target : live .request .target ≡ t
 
 live-at : (m : Memory) (b : Box) → HeldBy m b → (r t : ℕ) → r < 8 → liveTargetIn m r ≡ some t → LiveAt m b r t
+unfolding liveTargetIn
 live-at m b h r t low e = go (decLt r (nth (m .numbers) 2))
   where
     s : Says m b
@@ -37,9 +38,9 @@ live-at m b h r t low e = go (decLt r (nth (m .numbers) 2))
     go : Dec (r < nth (m .numbers) 2) → LiveAt m b r t
     go (yes u) =
         let own = row-used m b h r u in
-        let (l, is, target) = mapped _ _ t (sym (s .live r (nth (m .rows) r) own) ∙ e) in
+        let (l, is, target) = mapped _ _ t (ap (Option·map (λ (l : Live). l .request .target)) (sym (s .live r (nth (m .rows) r) own)) ∙ e) in
         record { own = own; live = l; is = is; target = target }
-    go (no u) = none-some (sym (s .unused r (omega arith) low) ∙ e)
+    go (no u) = none-some (ap (Option·map (λ (l : Live). l .request .target)) (sym (s .unused r (omega arith) low)) ∙ e)
 
 pub links-never-shared : AcceptedIsSound → box.LinksNeverShared → LinksNeverShared
 unfolding LinksNeverShared box.LinksNeverShared box.Apart box.runs

@@ -21,7 +21,7 @@ use Rattle.box_promises.proofs.Nothing.{one-memory}
 pub verdicts-of-the-rules : VerdictsAsWorded → AcceptedExactly → VerdictsOfTheRules
 unfolding VerdictsOfTheRules VerdictsAsWorded AcceptedExactly
 verdicts-of-the-rules words exactly file v m w l =
-    record { computed = l .verdict; worded = (words file v) .1 (sym (l .verdict)); accepted = λ bytes. rw (l .verdict) (exactly file bytes) }
+    record { computed = l .verdict; worded = (words file v) .1 (sym (l .verdict)); accepted = rw (l .verdict) (exactly file (l .bytes)) }
 
 -- an accepted load
 module _ (file : List ℕ) (v : Verdict) (m : Memory) (w : Watchdog) (l : LoadLeaves file v m w) (h : number v ≡ 0) where

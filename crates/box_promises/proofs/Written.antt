@@ -20,7 +20,7 @@ use Rattle.rules_box.specs.Step.{step, accepts, Outcome, endedBy, clockOf}
 use Rattle.rules_box.specs.laws.Steps.{step-cases}
 use Rattle.box_calls.specs.Calls.{Lent}
 use Rattle.box_promises.specs.Words.{countOf, recordAt}
-use Rattle.box_promises.specs.Promises.{OutcomeOf, Started}
+use Rattle.box_promises.specs.Promises.{OutcomeOf, Shows}
 
 record-bytes : (clock : ℕ) (rs : List Record) (buffer : List ℕ) (j : ℕ) (r : Record) → atPlace j rs ≡ some r → recordAt (recorded clock rs buffer) j ≡ recordBytes clock r
 unfolding recordAt recorded recordBytes
@@ -56,8 +56,8 @@ module _ {before after : Lent} {answer : Answer} (room : ℕ) (b : Box) (w : Wat
   pub at-place : (j : ℕ) → j < countOf answer → (r : Record) × (atPlace j ((step room b w e) .records) ≡ some r)
   at-place j low = at-some ((step room b w e) .records) j (omega (arith, counted))
 
-  -- a start among the records
-  pub start-in : (i v : ℕ) (r : state.Request) → List·Memᴰ (full 5 i v r) ((step room b w e) .records) → Started e answer (after .records) i r
-  start-in i v r m =
-      let (j, within, at) = member-at ((step room b w e) .records) (full 5 i v r) m in
-      record { place = j; counted = omega (arith, counted); value = v; bytes = written-at j (full 5 i v r) at }
+  -- a record of the rules is in the buffer
+  pub shown-in : (kind i v : ℕ) (r : state.Request) → List·Memᴰ (full kind i v r) ((step room b w e) .records) → Shows kind e answer (after .records) i r
+  shown-in kind i v r m =
+      let (j, within, at) = member-at ((step room b w e) .records) (full kind i v r) m in
+      record { place = j; counted = omega (arith, counted); value = v; bytes = written-at j (full kind i v r) at }

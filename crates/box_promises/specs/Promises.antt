@@ -1,35 +1,43 @@
 -- What is proved of the box: demands 1, 2 and 3, of what its calls answer and leave in memory.
 use mathlib.Core.Path.{_≡_}
 use mathlib.Core.Logic.{_≢_, _⊎_, _↔_}
-use mathlib.Core.List.{List, List·Memᴰ}
-use mathlib.Core.Option.{none, some, Option·map}
-use mathlib.Core.Bool.{true}
-use Prim.Native.Nat.{ℕ, _+_, _*_, _%_, _≤_, _<_}
-use lib.ListN.{length}
-use Rattle.lists.specs.Place.{atPlace}
+use mathlib.Core.List.{List, [], _∷_, _++_, map}
+use mathlib.Core.Option.{Option, none, some}
+use mathlib.Core.Bool.{true, cond}
+use Prim.Native.Nat.{ℕ, _+_, _-_, _*_, _%_, _≤_, _<_}
+use lib.ListN.{length, take}
+use lib.Dec.{ltb}
+use Rattle.lists.specs.Search.{isIn}
+use Rattle.lists.specs.Place.{atPlace, without}
 use Rattle.bitsets.specs.Set.{member}
 use Rattle.rules_plan.specs.declared.Verdict.{Verdict}
-use Rattle.rules_plan.specs.Plan.{nth, two, Plan}
-use Rattle.rules_plan.specs.Meaning.{initiators, uses}
+use Rattle.rules_plan.specs.declared.Copied.{Copied}
+use Rattle.rules_plan.specs.declared.Copied.the-variants.{Written}
+use Rattle.rules_plan.specs.Plan.{nth, two, Entry, Plan}
+use Rattle.rules_plan.specs.Meaning.{initiators, entryAt, uses}
 use Rattle.rules_plan.specs.Verdict.{number}
 use Rattle.rules_plan.specs.Judge.{judge}
-use Rattle.rules_plan.specs.Canon.{written, given, SamePlan}
-use Rattle.rules_plan.specs.Good.{Bytes, Good}
+use Rattle.rules_plan.specs.Canon.{canonical, written, given, SamePlan}
+use Rattle.rules_plan.specs.Copy.{copyAnswer, copied}
+use Rattle.rules_plan.specs.Good.{Good}
 use Rattle.rules_plan.specs.Words.{Gets}
 use Rattle.rules_box.specs.declared.Event.{Event}
-use Rattle.rules_box.specs.declared.Event.the-variants.{TimeCode, Request}
+use Rattle.rules_box.specs.declared.Event.the-variants.{TimeCode, Request, Reply}
 use Rattle.rules_box.specs.declared.Answer.{Answer}
-use Rattle.rules_box.specs.declared.Answer.the-variants.{Joined}
+use Rattle.rules_box.specs.declared.Answer.the-variants.{Joined, Ended}
 use Rattle.rules_box.specs.declared.Watchdog.{Watchdog}
 use Rattle.rules_box.specs.State as state
-use Rattle.rules_box.specs.State.{Box, Live, thePlan}
-use Rattle.rules_box.specs.Turn.{inSequence}
+use Rattle.rules_box.specs.State.{Box, thePlan}
+use Rattle.rules_box.specs.Turn.{inSequence, class}
 use Rattle.rules_box.specs.Records.{recordBytes, recorded, full}
 use Rattle.rules_box.specs.Step.{Outcome, step, clockOf}
 use Rattle.rules_box.specs.History.{Reached}
+use Rattle.memory_plan.specs.Held.{Held}
 use Rattle.memory_run.specs.Memory.{Finds}
-use Rattle.box_calls.specs.Calls.{Memory, At, Lent, ClearLeaves, LoadLeaves, StepLeaves, Came, Done, Follow}
-use Rattle.box_promises.specs.Words.{blankMemory, RowOf, runWord, waitingIn, liveTargetIn, requestIn, pathHas, numberOf, countOf, InSequence, timeCodes, AllInSequence, recordAt}
+use Rattle.load_plan.specs.Load.{HoldsPlanOf}
+use Rattle.out_plan.specs.Out.{WritesOut}
+use Rattle.box_calls.specs.Calls.{Memory, At, Lent, withRun, ClearLeaves, LoadLeaves, StepLeaves, Came, Done, Follow}
+use Rattle.box_promises.specs.Words.{blankMemory, RowOf, runWord, waitingIn, requestIn, lineIn, liveIn, liveTargetIn, spanIn, aimsIn, pathHas, numberOf, countOf, InSequence, tickOf, timeCodes, AllInSequence, recordAt}
 
 -- "A box's state comes only from a clear, which needs none before it, a load or an event; statements may take that as given and nothing
 -- more": memory that came so holds the box that the definitions reach by the same calls, and meets what every event asks of memory.
@@ -37,19 +45,27 @@ pub record HeldBy (m : Memory) (b : Box) : Type 0 where
   pub reached : Reached b
   pub at : At m b
   pub finds : Finds b (m .rows) (m .spans) (m .aims) (m .numbers) (m .run) (m .last)
+  pub plan : Held (b .plan) (m .sets) (m .ends) (m .rows) (m .reach) (m .paths) (m .spans) (m .aims) (m .numbers)
 
 unfoldable pub HoldsTheBox : Type 0
 HoldsTheBox = (m : Memory) (b : Box) → Came m b → HeldBy m b
 
--- The words and bytes that demand 3 speaks of say what the rules say: which initiators there are, who waits, what is live and where it
--- leads, which time-code is in sequence.
+-- The words and bytes that demand 3 speaks of say what the rules say: which initiators there are, who waits with what, what is live and
+-- for how long, which entry stands where, where a path leads, which time-code is in sequence.
+unfoldable pub EntrySays : (span aims : ℕ) → Option Entry → Type 0
+EntrySays span′ aims none = span′ ≡ 0
+EntrySays span′ aims (some e) = (span′ ≢ 0) × (span′ ≡ e .span) × ((t : ℕ) → member t aims ≡ isIn t (e .targets))
+
 pub record Says (m : Memory) (b : Box) : Type 0 where
   pub row : (r i : ℕ) → RowOf m r i ↔ (atPlace r (initiators (thePlan b)) ≡ some i)
+  pub next : (r i : ℕ) → RowOf m r i → runWord m r 0 ≡ (b .side i) .next
   pub waiting : (r i : ℕ) → RowOf m r i → waitingIn m r ≡ length ((b .side i) .line)
-  pub live : (r i : ℕ) → RowOf m r i → liveTargetIn m r ≡ Option·map (λ (l : Live). l .request .target) ((b .side i) .live)
-  pub unused : (r : ℕ) → nth (m .numbers) 2 ≤ r → r < 8 → liveTargetIn m r ≡ none
+  pub line : (r i : ℕ) → RowOf m r i → map requestIn (lineIn m r) ≡ (b .side i) .line
+  pub live : (r i : ℕ) → RowOf m r i → liveIn m r ≡ (b .side i) .live
+  pub unused : (r : ℕ) → nth (m .numbers) 2 ≤ r → r < 8 → liveIn m r ≡ none
+  pub entry : (r i v : ℕ) → RowOf m r i → v < 64 → EntrySays (spanIn m r v) (aimsIn m r v) (entryAt ((thePlan b) .entries) i v)
   pub path : (i t l : ℕ) → pathHas m i t l ≡ uses (thePlan b) i t l
-  pub next : (byte : ℕ) → InSequence m byte ↔ (inSequence (b .last) byte ≡ true)
+  pub in-sequence : (byte : ℕ) → InSequence m byte ↔ (inSequence (b .last) byte ≡ true)
 
 unfoldable pub WordsOfTheBox : Type 0
 WordsOfTheBox = (m : Memory) (b : Box) → Came m b → Says m b
@@ -72,12 +88,12 @@ RefusedEventChangesNothing =
     (before after : Lent) (e : Event) (answer : Answer) (b : Box) → Came (before .memory) b → StepLeaves before e answer after →
     numberOf answer ≢ 0 → after ≡ before
 
--- Demand 2. A load answers the verdict of the rules, as they are computed and as they are worded; for a file of bytes it is 0 exactly
--- when the file is a good plan written out in some order of its items.
+-- Demand 2. A load answers the verdict of the rules, as they are computed and as they are worded; it is 0 exactly when the file is a good plan
+-- written out in some order of its items.
 pub record VerdictOf (file : List ℕ) (v : Verdict) : Type 0 where
   pub computed : v ≡ judge file
   pub worded : Gets file v
-  pub accepted : Bytes file → (number v ≡ 0) ↔ ((p : Plan) × (file ≡ written p) × Good p)
+  pub accepted : (number v ≡ 0) ↔ ((p : Plan) × (file ≡ written p) × Good p)
 
 unfoldable pub VerdictsOfTheRules : Type 0
 VerdictsOfTheRules = (file : List ℕ) (v : Verdict) (m : Memory) (w : Watchdog) → LoadLeaves file v m w → VerdictOf file v
@@ -87,6 +103,29 @@ unfoldable pub SamePlanSameMemory : Type 0
 SamePlanSameMemory =
     (file file′ : List ℕ) (v v′ : Verdict) (m m′ : Memory) (w w′ : Watchdog) → LoadLeaves file v m w → LoadLeaves file′ v′ m′ w′ →
     number v ≡ 0 → number v′ ≡ 0 → SamePlan (given file) (given file′) ↔ (m ≡ m′)
+
+-- "A plan written out and read back is the same plan", after any calls. Writing out answers and puts what the rules say of the box's plan,
+-- and room for 13,643 bytes is always enough.
+abbrev pub WriteLeaves : Memory → (out : List ℕ) → Copied → (out′ : List ℕ) → Type 0
+WriteLeaves m = WritesOut (m .sets) (m .ends) (m .rows) (m .paths) (m .spans) (m .aims) (m .numbers)
+
+-- The bytes are those of the plan in canonical order; a load of them is accepted and leaves the very same plan memory; and `holds` says
+-- true of them.
+pub record SamePlanBack (m : Memory) (b : Box) (bytes : List ℕ) : Type 0 where
+  pub canonical-plan : canonical (thePlan b) ≡ thePlan b
+  pub written-plan : bytes ≡ written (thePlan b)
+  pub loads : (v : Verdict) (m′ : Memory) (w : Watchdog) → LoadLeaves bytes v m′ w → (number v ≡ 0) × (m′ ≡ withRun m (m′ .run) (m′ .last))
+  pub held : HoldsPlanOf bytes (m .sets) (m .ends) (m .rows) (m .reach) (m .paths) (m .spans) (m .aims) (m .numbers)
+
+pub record WrittenOut (m : Memory) (b : Box) (out : List ℕ) (answer′ : Copied) (out′ : List ℕ) : Type 0 where
+  pub answer : answer′ ≡ copyAnswer (length out) (b .plan)
+  pub buffer : out′ ≡ copied (b .plan) out
+  pub enough : b .plan ≢ none → 13_643 ≤ length out → (size : ℕ) × (answer′ ≡ Written size)
+  pub back : (size : ℕ) → answer′ ≡ Written size → SamePlanBack m b (take size out′)
+
+unfoldable pub WritesThePlanOut : Type 0
+WritesThePlanOut =
+    (m : Memory) (b : Box) → Came m b → (out out′ : List ℕ) (answer : Copied) → WriteLeaves m out answer out′ → WrittenOut m b out answer out′
 
 -- An event answers what the rules say of the box in memory and of the five numbers as lent, and leaves what they say.
 pub record OutcomeOf (o : Outcome) (before : Lent) (e : Event) (answer′ : Answer) (after : Lent) : Type 0 where
@@ -107,23 +146,43 @@ LinksNeverShared =
     (t t′ l : ℕ) → liveTargetIn m r ≡ some t → liveTargetIn m r′ ≡ some t′ →
     pathHas m (nth (m .rows) r) t l ≡ true → pathHas m (nth (m .rows) r′) t′ l ≡ true → ⊥
 
--- Demand 3, waiting. "A request accepted as number p in its line starts within the next 64·p accepted time-codes if all are in sequence;
--- that holds whatever the other initiators do": one of the events that follow writes the record of its start, under its number.
-pub record Started (e : Event) (answer : Answer) (records : List ℕ) (i : ℕ) (r : state.Request) : Type 0 where
+-- a record of this kind and request, of initiator i, is among those that an event wrote
+pub record Shows (kind : ℕ) (e : Event) (answer : Answer) (records : List ℕ) (i : ℕ) (r : state.Request) : Type 0 where
   pub place : ℕ
   pub counted : place < countOf answer
   pub value : ℕ
-  pub bytes : recordAt records place ≡ recordBytes (clockOf e) (full 5 i value r)
+  pub bytes : recordAt records place ≡ recordBytes (clockOf e) (full kind i value r)
 
-abbrev pub OneStarted : List Done → ℕ → state.Request → Type 0
-OneStarted ds i r = (d : Done) × List·Memᴰ d ds × Started (d .event) (d .answer) (d .after .records) i r
+-- Demand 3, waiting. "A request accepted as number p in its line starts within the next 64·p accepted time-codes if all are in sequence;
+-- that holds whatever the other initiators do." It is followed by its place, since its number comes round.
+-- It leaves: the request in this word, at place k of the line of row r, the first of those with this word. Those behind it move up, it is live,
+-- and its record is written.
+pub record Leaves (d : Done) (r i word k : ℕ) : Type 0 where
+  pub was : atPlace k (lineIn (d .before .memory) r) ≡ some word
+  pub oldest : (j : ℕ) → j < k → atPlace j (lineIn (d .before .memory) r) ≢ some word
+  pub line : lineIn (d .after .memory) r ≡ without k (lineIn (d .before .memory) r)
+  pub live : (runWord (d .after .memory) r 10 ≡ word) × (runWord (d .after .memory) r 11 ≢ 0)
+  pub started : Shows 5 (d .event) (d .answer) (d .after .records) i (requestIn word)
+
+-- It waits on: nobody leaves the line, or another does, and who stands behind that one moves up.
+pub data Waits (d : Done) (r i k : ℕ) : ℕ → Type 0 where
+  stays : (more : List ℕ) → lineIn (d .after .memory) r ≡ lineIn (d .before .memory) r ++ more → Waits d r i k k
+  moves : {word j : ℕ} → Leaves d r i word j → j ≢ k → Waits d r i k (cond (ltb j k) (k - 1) k)
+
+-- It starts at one of the events.
+pub data Starts (r i word : ℕ) : ℕ → List Done → Type 0 where
+  now : {k : ℕ} {d : Done} {ds : List Done} → Leaves d r i word k → Starts r i word k (d ∷ ds)
+  later : {k j : ℕ} {d : Done} {ds : List Done} → Waits d r i k j → Starts r i word j ds → Starts r i word k (d ∷ ds)
 
 pub record StartsInTime (before after : Lent) (i : ℕ) (r : state.Request) : Type 0 where
   pub row : ℕ
   pub own : RowOf (before .memory) row i
+  pub word : ℕ
+  pub joins : lineIn (after .memory) row ≡ lineIn (before .memory) row ++ (word ∷ [])
+  pub asked : requestIn word ≡ r
   pub within :
       (ds : List Done) → Follow (after .memory) ds → AllInSequence ds → 64 * (waitingIn (before .memory) row + 1) ≤ timeCodes ds →
-      OneStarted ds i r
+      Starts row i word (waitingIn (before .memory) row) ds
 
 unfoldable pub RequestsStartInTime : Type 0
 RequestsStartInTime =
@@ -141,9 +200,9 @@ pub record AtAnEntry (m : Memory) (e : Event) (bytes : List ℕ) : Type 0 where
   pub value : nth bytes 3 ≡ byte % 64
   pub row : ℕ
   pub own : RowOf m row (nth bytes 1)
-  pub stands : nth (m .spans) (64 * row + nth bytes 3) ≢ 0
-  pub aims : member (nth bytes 2) (nth (m .aims) (64 * row + nth bytes 3)) ≡ true
-  pub long : two bytes 6 ≤ 256 * nth (m .spans) (64 * row + nth bytes 3)
+  pub stands : spanIn m row (nth bytes 3) ≢ 0
+  pub aims : member (nth bytes 2) (aimsIn m row (nth bytes 3)) ≡ true
+  pub long : two bytes 6 ≤ 256 * spanIn m row (nth bytes 3)
 
 unfoldable pub StartsOnlyAtEntries : Type 0
 StartsOnlyAtEntries =
@@ -158,19 +217,41 @@ OncePerVisit =
     nth (recordAt (after .records) j) 0 ≡ 5 → nth (recordAt (after .records) j′) 0 ≡ 5 →
     nth (recordAt (after .records) j) 1 ≢ nth (recordAt (after .records) j′) 1
 
--- No start without its record: what is live in a row was live there before, the same request with the same span, or the event wrote a
--- record of kind 5 of this request.
-pub record StillLive (before after : Memory) (r : ℕ) : Type 0 where
+-- No start without its record: what is live in a row was live there before, or the event wrote a record of kind 5 of this request. Still
+-- live is the same request with one time-code less to go where one was accepted.
+pub record StillLive (before after : Memory) (ticks r : ℕ) : Type 0 where
   pub live : runWord before r 11 ≢ 0
+  pub still : runWord after r 11 ≢ 0
   pub request : runWord after r 10 ≡ runWord before r 10
-  pub span : runWord after r 11 % 256 ≡ runWord before r 11 % 256
+  pub time : runWord before r 11 ≡ runWord after r 11 + 256 * ticks
 
 unfoldable pub LiveByRecordOnly : Type 0
 LiveByRecordOnly =
     (before after : Lent) (e : Event) (answer : Answer) (b : Box) → Came (before .memory) b → StepLeaves before e answer after →
     (r : ℕ) → r < 8 → runWord (after .memory) r 11 ≢ 0 →
-    StillLive (before .memory) (after .memory) r
-    ⊎ Started e answer (after .records) (nth (after .memory .rows) r) (requestIn (runWord (after .memory) r 10))
+    StillLive (before .memory) (after .memory) (tickOf e answer) r
+    ⊎ Shows 5 e answer (after .records) (nth (after .memory .rows) r) (requestIn (runWord (after .memory) r 10))
+
+-- No end without a reply or a record: what was live in a row still is, or an accepted reply with its number ended it, or the event wrote a
+-- record of kind 4 of it. (A load and a clear leave nothing live.)
+pub record EndedByReply (i : ℕ) (r : state.Request) (e : Event) (answer′ : Answer) : Type 0 where
+  pub status : ℕ
+  pub event : e ≡ Reply i (r .number) status
+  pub answer : answer′ ≡ Ended (r .target) (r .length) status (class status)
+
+unfoldable pub EndsByReplyOrRecord : Type 0
+EndsByReplyOrRecord =
+    (before after : Lent) (e : Event) (answer : Answer) (b : Box) → Came (before .memory) b → StepLeaves before e answer after →
+    (r : ℕ) → r < 8 → runWord (before .memory) r 11 ≢ 0 →
+    StillLive (before .memory) (after .memory) (tickOf e answer) r
+    ⊎ EndedByReply (nth (before .memory .rows) r) (requestIn (runWord (before .memory) r 10)) e answer
+    ⊎ Shows 4 e answer (after .records) (nth (before .memory .rows) r) (requestIn (runWord (before .memory) r 10))
+
+-- "Were that initiator still live": no record of kind 6 is ever written.
+unfoldable pub NoneStillLive : Type 0
+NoneStillLive =
+    (before after : Lent) (e : Event) (answer : Answer) (b : Box) → Came (before .memory) b → StepLeaves before e answer after →
+    (j : ℕ) → j < countOf answer → nth (recordAt (after .records) j) 0 ≢ 6
 
 pub record Promises : Type 0 where
   pub holds : HoldsTheBox
@@ -180,9 +261,12 @@ pub record Promises : Type 0 where
   pub refused-event : RefusedEventChangesNothing
   pub verdicts : VerdictsOfTheRules
   pub same : SamePlanSameMemory
+  pub written : WritesThePlanOut
   pub events : EventsOfTheRules
   pub links : LinksNeverShared
   pub in-time : RequestsStartInTime
   pub entries : StartsOnlyAtEntries
   pub once : OncePerVisit
   pub live : LiveByRecordOnly
+  pub ends : EndsByReplyOrRecord
+  pub none-still : NoneStillLive

@@ -2,9 +2,9 @@
 use mathlib.Core.Path.{_≡_}
 use mathlib.Core.Logic.{_⊎_}
 use mathlib.Core.List.{List, [], _∷_, List·Memᴰ}
-use mathlib.Core.Option.{Option, none, some}
+use mathlib.Core.Option.{Option, none, some, Option·map}
 use mathlib.Core.Bool.{Bool, true, false, _&&_, cond}
-use Prim.Native.Nat.{ℕ, _+_, _*_, _/_, _%_, _<_}
+use Prim.Native.Nat.{ℕ, _+_, _-_, _*_, _/_, _%_, _<_}
 use lib.ListN.{take, drop, replicate}
 use lib.Dec.{eqb}
 use Rattle.lists.specs.Search.{isIn}
@@ -15,6 +15,7 @@ use Rattle.rules_box.specs.declared.Event.the-variants.{TimeCode, Request, Repl
 use Rattle.rules_box.specs.declared.Answer.{Answer}
 use Rattle.rules_box.specs.Answer.{values}
 use Rattle.rules_box.specs.State as state
+use Rattle.rules_box.specs.State.{Live}
 use Rattle.box_calls.specs.Calls.{Memory, Done}
 
 -- memory with every number 0
@@ -45,10 +46,6 @@ runWord m r k = nth (m .run) (12 * r + k)
 abbrev pub waitingIn : Memory → ℕ → ℕ
 waitingIn m r = runWord m r 1
 
--- the target of the live transaction of row r
-unfoldable pub liveTargetIn : Memory → ℕ → Option ℕ
-liveTargetIn m r = cond (eqb (runWord m r 11) 0) none (some (runWord m r 10 / 65_536 % 64))
-
 -- a request as memory has it in one word, the bytes of its record from the low end: its kind is the top bit of the first, the target is
 -- the third, the number the fifth and sixth, the length the last two, high byte first
 unfoldable pub requestIn : ℕ → state.Request
@@ -58,6 +55,30 @@ requestIn word = record {
   length = word / 281_474_976_710_656 % 256 * 256 + word / 72_057_594_037_927_936 % 256;
   number = word / 4_294_967_296 % 256 * 256 + word / 1_099_511_627_776 % 256;
 }
+
+-- the words of the requests that wait in row r, the oldest first
+unfoldable pub lineIn : Memory → ℕ → List ℕ
+lineIn m r = take (waitingIn m r) (drop (12 * r + 2) (m .run))
+
+-- the live transaction of row r, and its target: none where the last word is 0
+unfoldable pub liveIn : Memory → ℕ → Option Live
+liveIn m r =
+    cond (eqb (runWord m r 11) 0) none
+    (some (record {
+      request = requestIn (runWord m r 10);
+      span = runWord m r 11 % 256;
+      age = runWord m r 11 % 256 - runWord m r 11 / 256;
+    }))
+
+unfoldable pub liveTargetIn : Memory → ℕ → Option ℕ
+liveTargetIn m r = Option·map (λ (l : Live). l .request .target) (liveIn m r)
+
+-- the entry at slot v of row r: its span, 0 where none stands there, and its targets as a set
+abbrev pub spanIn : Memory → ℕ → ℕ → ℕ
+spanIn m r v = nth (m .spans) (64 * r + v)
+
+abbrev pub aimsIn : Memory → ℕ → ℕ → ℕ
+aimsIn m r v = nth (m .aims) (64 * r + v)
 
 -- path number k, eleven bytes: initiator, target, how many links, the links
 unfoldable pub linksIn : Memory → ℕ → List ℕ
@@ -87,10 +108,13 @@ isTimeCode (Request i t k n) = false
 isTimeCode (Reply i m status) = false
 isTimeCode (Reading clock) = false
 
--- how many time-codes among the events were accepted
+-- how many time-codes were accepted: of one event, and among several
+abbrev pub tickOf : Event → Answer → ℕ
+tickOf e a = cond (isTimeCode e && eqb (numberOf a) 0) 1 0
+
 unfoldable pub timeCodes : List Done → ℕ
 timeCodes [] = 0
-timeCodes (d ∷ ds) = cond (isTimeCode (d .event) && eqb (numberOf (d .answer)) 0) 1 0 + timeCodes ds
+timeCodes (d ∷ ds) = tickOf (d .event) (d .answer) + timeCodes ds
 
 -- each of these was in sequence
 unfoldable pub AllInSequence : List Done → Type 0

@@ -1,12 +1,5 @@
 // Writing out: the plan in memory as a file again, its fields in canonical order, in a lent buffer.
-ghost use mathlib.Core.Path.{_≡_};
-ghost use mathlib.Core.List.{List};
-ghost use mathlib.Core.Option.{Option};
-ghost use Prim.Native.Nat.{ℕ};
-ghost use lib.ListN.{length};
-ghost use Rattle.rules_plan.specs.Plan.{Plan};
-ghost use Rattle.rules_plan.specs.Copy.{copyAnswer, copied};
-ghost use Rattle.memory_plan.specs.Held.{Held};
+ghost use Rattle.out_plan.specs.Out.{WritesOut};
 use memory_plan::at_most;
 use memory_plan::interval::is_loaded;
 use memory_plan::layout::*;
@@ -28,8 +21,7 @@ pub fn write_out(
     numbers: &Numbers,
     out: &mut [u8],
 ) -> Copied
-    ensures { λ r. ⌜ ((o : Option Plan) (reach : List ℕ) → Held o (now (sets .entry)) (now (ends .entry)) (now (rows .entry)) reach (now (paths .entry)) (now (spans .entry)) (now (aims .entry)) (now (numbers .entry)) →
-        (r ≡ copyAnswer (length (now (out .entry))) o) × (now (out .exit) ≡ copied o (now (out .entry)))) ⌝ }
+    ensures { λ r. ⌜ WritesOut (now (sets .entry)) (now (ends .entry)) (now (rows .entry)) (now (paths .entry)) (now (spans .entry)) (now (aims .entry)) (now (numbers .entry)) (now (out .entry)) r (now (out .exit)) ⌝ }
 {
     if !is_loaded(numbers) {
         return Copied::NotWritten { number: 20 };

@@ -6,7 +6,9 @@ use Rattle.rules_box.proofs.Links.{links-never-shared, not-even-between
 use Rattle.rules_box.proofs.Places.{this-very-request, joins-as-asked}
 use Rattle.rules_box.proofs.InTime.{requests-start-in-time}
 use Rattle.rules_box.proofs.Order.{records-in-order, once-per-visit}
-use Rattle.rules_box.proofs.Visits.{starts-only-at-entries, live-by-record-only}
+use Rattle.rules_box.proofs.Visits.{starts-only-at-entries}
+use Rattle.rules_box.proofs.Lives.{live-by-record-only, ends-by-reply-or-record, none-still-live}
+use Rattle.rules_box.proofs.Late.{stepped-back-reads-late}
 
 pub promised : AcceptedIsSound → Promises
 promised ok = record {
@@ -21,5 +23,8 @@ promised ok = record {
   entries = starts-only-at-entries;
   once = once-per-visit;
   live = live-by-record-only ok;
+  ends = ends-by-reply-or-record ok;
+  none-still = none-still-live ok;
   records = records-in-order ok;
+  stepped-back = stepped-back-reads-late;
 }

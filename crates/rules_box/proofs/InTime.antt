@@ -54,7 +54,7 @@ nearer (some w) byte t q ht d = omega (arith, next-value w byte q)
 
 module _ (p : Plan) (ok : Sound p) (e : Entry) (me : List·Memᴰ e (p .entries)) (last : Option ℕ) (byte : ℕ) (q : inSequence last byte ≡ true) (here : valueOf byte ≡ e .slot) where
   -- at an entry nothing of its initiator is live any more
-  nothing-live : (o : Option Live) → ((m : Live) → o ≡ some m → AtWork p last (e .initiator) m) → survives (inSequence last byte) o ≡ none
+  pub nothing-live : (o : Option Live) → ((m : Live) → o ≡ some m → AtWork p last (e .initiator) m) → survives (inSequence last byte) o ≡ none
   unfolding older
   nothing-live o old = go (survives (inSequence last byte) o) refl
     where

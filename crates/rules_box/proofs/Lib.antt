@@ -3,5 +3,7 @@ pub mod Order
 pub mod Visits
 pub mod Places
 pub mod InTime
+pub mod Lives
+pub mod Late
 pub mod Refusals
 pub mod All

@@ -55,7 +55,10 @@ module _ (p : Plan) (q : Bool) (byte i : ℕ) (s : Side) where
     pub shown : r ≡ full 5 i (valueOf byte) (start .found .what)
 
   pub record Still (r : Record) : Type 0 where
+    pub entry : Entry
+    pub here : visited p q byte i ≡ some entry
     pub live : Live
+    pub is : survives q (s .live) ≡ some live
     pub shown : r ≡ full 6 i (valueOf byte) (live .request)
 
   pub visit-cases : (r : Record) → List·Memᴰ r (visitRecords p q byte i s) → Starts r ⊎ Still r
@@ -69,14 +72,14 @@ module _ (p : Plan) (q : Bool) (byte i : ℕ) (s : Side) where
       start none e k = absurd (List·Memᴰ·not-nil k)
       start (some x) e k = inl (record { start = x; is = e; shown = List·Memᴰ·eq-of-singleton k })
 
-      still : (o : Option Entry) (l : Option Live) → List·Memᴰ r (stillRecord o i v l) → Starts r ⊎ Still r
-      still none l k = absurd (List·Memᴰ·not-nil k)
-      still (some e) none k = absurd (List·Memᴰ·not-nil k)
-      still (some e) (some l) k = inr (record { live = l; shown = List·Memᴰ·eq-of-singleton k })
+      still : (o : Option Entry) → visited p q byte i ≡ o → (l : Option Live) → survives q (s .live) ≡ l → List·Memᴰ r (stillRecord o i v l) → Starts r ⊎ Still r
+      still none f l g k = absurd (List·Memᴰ·not-nil k)
+      still (some e) f none g k = absurd (List·Memᴰ·not-nil k)
+      still (some e) f (some l) g k = inr (record { entry = e; here = f; live = l; is = g; shown = List·Memᴰ·eq-of-singleton k })
 
       go : List·Memᴰ r (startRecord i v (startOf p q byte i s)) ⊎ List·Memᴰ r (stillRecord (visited p q byte i) i v (survives q (s .live))) → Starts r ⊎ Still r
       go (inl k) = start (startOf p q byte i s) refl k
-      go (inr k) = still (visited p q byte i) (survives q (s .live)) k
+      go (inr k) = still (visited p q byte i) refl (survives q (s .live)) refl k
 
   visit-rank : (r : Record) → List·Memᴰ r (visitRecords p q byte i s) → rank r ≡ 256 + i
   unfolding full stage

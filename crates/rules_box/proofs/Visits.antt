@@ -1,4 +1,5 @@
--- Starts and their records: a start is written down, and what is written down as one stands at an entry of the initiator.
+-- Starts and their records: a start is written down, and what is written down as one stands at an entry of the initiator. Whoever starts
+-- has nothing live any more.
 use mathlib.Core.Path.{_≡_, refl, sym, ap, _∙_}
 use mathlib.Core.Logic.{_⊎_, inl, inr}
 use mathlib.Core.List.{List, List·Memᴰ, List·Memᴰ·head, List·Memᴰ·append-cases, List·Memᴰ·not-nil, Memᴰ·append-left, Memᴰ·append-right}
@@ -82,41 +83,3 @@ unfolding StartsOnlyAtEntries
 starts-only-at-entries b room w e i r m h =
     records-cases room b w e (λ (rs : List Record). List·Memᴰ r rs → (byte : ℕ) × (clock : ℕ) × (e ≡ TimeCode byte clock) × AtAnEntry b byte i r)
     (λ k. absurd (List·Memᴰ·not-nil k)) (λ byte clock is k. (byte, clock, is, at-an-entry b w byte clock i r h k)) m
-
--- what is live was live before, or its start is written down
-abbrev Lived : Box → ℕ → Live → Type 0
-Lived b i l = (m : Live) × ((b .side i) .live ≡ some m) × (l .request ≡ m .request) × (l .span ≡ m .span)
-
-abbrev Told : ℕ → Live → List Record → Type 0
-Told i l rs = (v : ℕ) × List·Memᴰ (full 5 i v (l .request)) rs
-
-module _ (b : Box) (w : Watchdog) (i : ℕ) (l : Live) where
-  tick-live : (byte clock : ℕ) → Sound (thePlan b) → (turned (thePlan b) (inSequence (b .last) byte) byte i (b .side i)) .live ≡ some l → Lived b i l ⊎ Told i l (records b w byte clock)
-  unfolding older fresh
-  tick-live byte clock ok h = go (live-cases p q byte i (b .side i) l h)
-    where
-      p : Plan
-      p = thePlan b
-
-      q : Bool
-      q = inSequence (b .last) byte
-
-      go : Outlives q ((b .side i) .live) l ⊎ ((x : Start) × (startOf p q byte i (b .side i) ≡ some x) × (l ≡ fresh x)) → Lived b i l ⊎ Told i l (records b w byte clock)
-      go (inl z) = inl (z .was, z .before, ap (λ (x : Live). x .request) (z .is), ap (λ (x : Live). x .span) (z .is))
-      go (inr (x, is, e)) = inr (valueOf byte, rw e (start-recorded b w byte clock i ok x is))
-
-  kept-live : (j : ℕ) (f : Side → Side) → ((s : Side) → (f s) .live ≡ some l → s .live ≡ some l) → ((withSide b j f) .side i) .live ≡ some l → Lived b i l
-  kept-live j f keeps h = (l, live-kept b j i f l keeps h, refl, refl)
-
-  accepted-live : (e : Event) → Sound (thePlan b) → ((accepts b w e) .box .side i) .live ≡ some l → Lived b i l ⊎ Told i l ((accepts b w e) .records)
-  unfolding accepts ticked join finish
-  accepted-live (TimeCode byte clock) ok h = tick-live byte clock ok h
-  accepted-live (Request j t k n) ok h = inl (kept-live j (join t k n) (λ s g. g) h)
-  accepted-live (Reply j m status) ok h = inl (kept-live j finish (λ s g. none-some g) h)
-  accepted-live (Reading clock) ok h = inl (l, h, refl, refl)
-
-pub live-by-record-only : AcceptedIsSound → LiveByRecordOnly
-unfolding LiveByRecordOnly
-live-by-record-only ok b reached room w e i l h =
-    step-cases room b w e (λ (o : Outcome). (o .box .side i) .live ≡ some l → Lived b i l ⊎ Told i l (o .records))
-    (λ _ g. accepted-live b w i l e ((reached-inv ok b reached) .sound) g) (λ _ g. inl (l, g, refl, refl)) h

@@ -7,9 +7,9 @@ use lib.Dec.{ltb, eqb}
 use Rattle.rules_box.specs.declared.Event.{Event}
 use Rattle.rules_box.specs.declared.Event.the-variants.{TimeCode, Request, Reply, Reading}
 use Rattle.rules_box.specs.declared.Watchdog.{Watchdog}
-use Rattle.rules_box.specs.State.{Box, cleared, loaded, thePlan}
+use Rattle.rules_box.specs.State.{Box, Live, cleared, loaded, thePlan}
 use Rattle.rules_box.specs.Refuse.{refusal}
-use Rattle.rules_box.specs.Turn.{Start, inSequence, startOf}
+use Rattle.rules_box.specs.Turn.{Start, inSequence, older, startOf}
 use Rattle.rules_box.specs.Step.{step}
 
 -- "A box's state comes only from a clear, which needs none before it, a load or an event". Each event is lent a record buffer of
@@ -40,6 +40,10 @@ isNext b (TimeCode byte clock) = inSequence (b .last) byte
 isNext b (Request i t k n) = false
 isNext b (Reply i m status) = false
 isNext b (Reading clock) = false
+
+-- what is live before an event and still after it: one time-code older where that was one that is accepted
+unfoldable pub lasting : Box → ℕ → Event → Live → Live
+lasting b room e l = cond (isTick b room e) (older l) l
 
 -- how many time-codes of the events are accepted
 unfoldable pub ticks : Box → List Fed → ℕ

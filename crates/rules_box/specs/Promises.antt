@@ -3,8 +3,8 @@ use mathlib.Core.Path.{_≡_}
 use mathlib.Core.Logic.{_≢_, _⊎_, _↔_}
 use mathlib.Core.List.{List, [], map, flatMap, List·Memᴰ}
 use mathlib.Core.Option.{none, some}
-use mathlib.Core.Bool.{Bool, true, _&&_, cond}
-use Prim.Native.Nat.{ℕ, _+_, _*_, _≤_}
+use mathlib.Core.Bool.{Bool, true, false, _&&_, cond}
+use Prim.Native.Nat.{ℕ, _+_, _-_, _*_, _%_, _^_, _≤_, _<_}
 use lib.ListN.{length}
 use lib.Dec.{eqb, ltb}
 use Rattle.lists.specs.Search.{keep}
@@ -15,16 +15,17 @@ use Rattle.rules_plan.specs.Meaning.{uses, permits}
 use Rattle.rules_plan.specs.Verdict.{number}
 use Rattle.rules_plan.specs.Judge.{judge}
 use Rattle.rules_box.specs.declared.Event.{Event}
-use Rattle.rules_box.specs.declared.Event.the-variants.{TimeCode, Request}
-use Rattle.rules_box.specs.declared.Answer.the-variants.{Refused}
+use Rattle.rules_box.specs.declared.Event.the-variants.{TimeCode, Request, Reply, Reading}
+use Rattle.rules_box.specs.declared.Answer.{Answer}
+use Rattle.rules_box.specs.declared.Answer.the-variants.{Refused, Ended, Told}
 use Rattle.rules_box.specs.declared.Watchdog.{Watchdog}
 use Rattle.rules_box.specs.State as state
-use Rattle.rules_box.specs.State.{Box, Side, Live, cleared, loaded, watchdogCleared, watchdogLoaded, thePlan}
+use Rattle.rules_box.specs.State.{Box, Side, Live, cleared, loaded, watchdogCleared, watchdogLoaded, noPlan, thePlan}
 use Rattle.rules_box.specs.Refuse.{refusal, recordSize, mostRecords}
-use Rattle.rules_box.specs.Turn.{inSequence, valueOf, aged, turned}
+use Rattle.rules_box.specs.Turn.{inSequence, valueOf, class, aged, turned}
 use Rattle.rules_box.specs.Records.{Record, recordBytes, full, records}
 use Rattle.rules_box.specs.Step.{step, Outcome}
-use Rattle.rules_box.specs.History.{Reached, Fed, ticks, allNext, Fate, starts, waits, fate, hasStarted}
+use Rattle.rules_box.specs.History.{Reached, Fed, lasting, ticks, allNext, Fate, starts, waits, fate, hasStarted}
 
 -- Demand 1. "A refused event changes nothing": it answers its number, and box, watchdog and records are as they were.
 unfoldable pub RefusedEventChangesNothing : Type 0
@@ -140,8 +141,26 @@ OncePerVisit =
 unfoldable pub LiveByRecordOnly : Type 0
 LiveByRecordOnly =
     (b : Box) → Reached b → (room : ℕ) (w : Watchdog) (e : Event) (i : ℕ) (l : Live) → ((step room b w e) .box .side i) .live ≡ some l →
-    ((m : Live) × ((b .side i) .live ≡ some m) × (l .request ≡ m .request) × (l .span ≡ m .span))
+    ((m : Live) × ((b .side i) .live ≡ some m) × (l ≡ lasting b room e m))
     ⊎ ((v : ℕ) × List·Memᴰ (full 5 i v (l .request)) ((step room b w e) .records))
+
+-- No end without a reply or a record: what was live still is, or an accepted reply with its number ended it, or a record of kind 4 says
+-- that it is late. (After a load or a clear nothing is live.)
+pub record EndedByReply (i : ℕ) (l : Live) (e : Event) (given : Answer) : Type 0 where
+  pub status : ℕ
+  pub event : e ≡ Reply i (l .request .number) status
+  pub answer : given ≡ Ended (l .request .target) (l .request .length) status (class status)
+
+unfoldable pub EndsByReplyOrRecord : Type 0
+EndsByReplyOrRecord =
+    (b : Box) → Reached b → (room : ℕ) (w : Watchdog) (e : Event) (i : ℕ) (l : Live) → (b .side i) .live ≡ some l →
+    (((step room b w e) .box .side i) .live ≡ some (lasting b room e l))
+    ⊎ EndedByReply i l e ((step room b w e) .answer)
+    ⊎ ((v : ℕ) × List·Memᴰ (full 4 i v (l .request)) ((step room b w e) .records))
+
+-- "Were that initiator still live": it never is, so there is no record of kind 6.
+unfoldable pub NoneStillLive : Type 0
+NoneStillLive = (b : Box) → Reached b → (room : ℕ) (w : Watchdog) (e : Event) (r : Record) → List·Memᴰ r ((step room b w e) .records) → r .kind ≢ 6
 
 -- "At most 17" records, 136 bytes, in document 01's order: the stages of the list, then initiators rising.
 unfoldable pub stage : ℕ → ℕ
@@ -158,6 +177,13 @@ pub record InOrder (clock : ℕ) (rs : List Record) : Type 0 where
 unfoldable pub RecordsInOrder : Type 0
 RecordsInOrder = (b : Box) → Reached b → (w : Watchdog) (byte clock : ℕ) → InOrder clock (records b w byte clock)
 
+-- "A clock stepped back by one reads as late": a reading one below the clock of the last time-code, which was seen and not reported. No
+-- plan's greatest interval is longer.
+unfoldable pub SteppedBackReadsLate : Type 0
+SteppedBackReadsLate =
+    (room : ℕ) (b : Box) (w : Watchdog) → noPlan b ≡ false → w .seen ≢ 0 → w .reported ≡ 0 → w .last < 2 ^ 32 → w .greatest ≤ 2_147_483_647 →
+    (step room b w (Reading ((w .last + 2 ^ 32 - 1) % 2 ^ 32))) .answer ≡ Told 1
+
 pub record Promises : Type 0 where
   pub refused-event : RefusedEventChangesNothing
   pub refused-load : RefusedLoadIsAClear
@@ -170,4 +196,7 @@ pub record Promises : Type 0 where
   pub entries : StartsOnlyAtEntries
   pub once : OncePerVisit
   pub live : LiveByRecordOnly
+  pub ends : EndsByReplyOrRecord
+  pub none-still : NoneStillLive
   pub records : RecordsInOrder
+  pub stepped-back : SteppedBackReadsLate

@@ -40,7 +40,7 @@ outlives true (some m) l h = go (leb (m .span) (m .age + 1)) refl
       young = leb-false (m .span) (m .age + 1) k;
     }
 
-visited-elim : (p : Plan) (q : Bool) (byte i : ℕ) (e : Entry) → visited p q byte i ≡ some e → (q ≡ true) × (entryAt (p .entries) i (valueOf byte) ≡ some e)
+pub visited-elim : (p : Plan) (q : Bool) (byte i : ℕ) (e : Entry) → visited p q byte i ≡ some e → (q ≡ true) × (entryAt (p .entries) i (valueOf byte) ≡ some e)
 unfolding visited
 visited-elim p true byte i e h = (refl, h)
 visited-elim p false byte i e h = none-some h

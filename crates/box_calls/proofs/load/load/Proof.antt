@@ -1,4 +1,5 @@
 -- `calls::load::load` meets its contract. Assumes nothing.
+use native.Mathlib.Omega.{arith}
 use borrow.Author.Needs.{needs}
 use Rattle.box_calls.specs.laws.Boxes.{holds-loaded, load-watchdog}
 use Rattle.box_calls.proofs.load.load.Statement.{statement}
@@ -19,9 +20,11 @@ greatest-interval-requires c κs = search needs
 returns : tie.Need-returns
 returns c =
     let r = c .before .before .before .before .clear-run .ensures in
-    let l = c .before .before .before .before .before .before .before .load .ensures in
+    let called = c .before .before .before .before .before .before .before in
+    let l = called .load .ensures in
+    let lent = called .before .before .before .before .before .before .before .before .before .shared-slice-known .given in
     let five = load-watchdog _ (c .before .before .least-interval .ensures _ _ (l .1 .numbers)) (c .greatest-interval .ensures _ _ (l .1 .numbers)) in
-    record { verdict = l .0; holds = holds-loaded _ (l .1) (r .0) (r .1); five = five }
+    record { bytes = λ n. omega (arith, lent n); verdict = l .0; holds = holds-loaded _ (l .1) (r .0) (r .1); five = five }
 
 pub load-spec : {M : Type 1} → statement M
 load-spec =
