@@ -24,6 +24,11 @@ use Rattle.box_calls.specs.Calls.{Memory, At, LoadLeaves}
 use Rattle.memory_run.specs.Memory.{Steps}
 use Rattle.c_numbers.specs.Numbers.{verdictNumbers, verdictOf, sizedNumbers}
 
+-- `spwd_c_version`: one more with each change of what is lent, of the numbers that calls take and give back, or of the bytes of a plan file
+-- or a record. `c/spwd.h` and `rust/spwd` name the version that they are written for.
+abbrev pub interfaceVersion : ℕ
+interfaceVersion = 1
+
 -- `spwd_c_load`
 pub record Loads (file : List ℕ) (m′ : Memory) (w′ : Watchdog) (verdict′ : List ℕ) : Type 0 where
   pub leaves : LoadLeaves file (judge file) m′ w′

@@ -98,13 +98,13 @@ pub extern "C" fn spwd_c_reply(
     numbers: &Numbers,
     run: &mut Run,
     initiator: u8,
-    number: u16,
+    transaction: u16,
     status: u8,
     answer: &mut [u32; 8],
 )
-    ensures { λ _. ⌜ Replies (now (rows .entry)) (now (numbers .entry)) (now (run .entry)) initiator number status (now (run .exit)) (now (answer .exit)) ⌝ }
+    ensures { λ _. ⌜ Replies (now (rows .entry)) (now (numbers .entry)) (now (run .entry)) initiator transaction status (now (run .exit)) (now (answer .exit)) ⌝ }
 {
-    *answer = values_of(reply(rows, numbers, run, initiator, number, status));
+    *answer = values_of(reply(rows, numbers, run, initiator, transaction, status));
 }
 
 // A reading with the five numbers by value: whether the next time-code is overdue, which is then reported.

@@ -3,3 +3,4 @@ pub mod ask;
 pub mod call;
 pub mod event;
 pub mod out;
+pub mod version;
