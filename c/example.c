@@ -58,10 +58,10 @@ static void request(spwd_box *box, uint8_t initiator, uint8_t target, uint8_t ki
     }
 }
 
-static void reply(spwd_box *box, uint8_t initiator, uint16_t number, uint8_t status)
+static void reply(spwd_box *box, uint8_t initiator, uint16_t transaction, uint8_t status)
 {
-    spwd_answer answer = spwd_reply(box, initiator, number, status);
-    printf("reply to %u, number %u, status %u: ", (unsigned)initiator, (unsigned)number, (unsigned)status);
+    spwd_answer answer = spwd_reply(box, initiator, transaction, status);
+    printf("reply to %u, number %u, status %u: ", (unsigned)initiator, (unsigned)transaction, (unsigned)status);
     if (answer.number == SPWD_TAKEN) {
         printf("from %lu, %lu bytes, class %lu\n", (unsigned long)answer.target, (unsigned long)answer.length,
                (unsigned long)answer.status_class);
@@ -164,6 +164,10 @@ int main(int count, char **arguments)
     static uint8_t file[SPWD_FILE_MOST + 1]; /* one byte more than a plan has decides that it has too many */
     static spwd_box box;
     size_t size = sizeof first_sample;
+    if (!spwd_version_fits()) {
+        fprintf(stderr, "the header has version %lu, the archive %lu\n", (unsigned long)SPWD_VERSION, (unsigned long)spwd_version());
+        return 3;
+    }
     memcpy(file, first_sample, size);
     if (count > 1) {
         FILE *stream = fopen(arguments[1], "rb");

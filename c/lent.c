@@ -1,7 +1,7 @@
 /* lent FILE..: every array of a box lent by itself, from malloc and so with nothing stored in it before the clear; then each file loaded, and
  * some events, writing out into rooms of many sizes, and the reread. For valgrind: no byte may be read that nothing was stored to, and none
  * outside an array. The status is 1 if the box is not blank after the clear, or does not hold the file that it accepted. */
-#include "spwd.h"
+#include "spwd_raw.h"
 
 #include <stdio.h>
 #include <stdlib.h>

@@ -2,25 +2,41 @@
  * spwd.h: the SpaceWire-D initiator box for C99 and C++11.
  *
  * One box is one spwd_box, which the caller owns. The library keeps nothing of its own, takes no heap and calls nothing but memset.
- * Link with libspwd_c.a (c/library builds it). A box MUST BE CLEARED (spwd_clear) before any other use: memory fresh from a
- * declaration or from malloc holds no box. A load may be the first call too, since it clears.
+ * A box MUST BE CLEARED (spwd_clear) before any other use: memory fresh from a declaration or from malloc holds no box. A load may
+ * be the first call too, since it clears. Ask spwd_version_fits once, at the start.
  *
  * Everything below follows document 01, "The initiator box described, with its rules"; its numbers are the constants here, and
- * docs/CARD.md says of each what to do about it. What is proved of each spwd_c_ function is its contract in crates/spwd_c.
+ * docs/CARD.md says of each what to do about it. What is proved of each function of the archive (spwd_raw.h) is its contract in
+ * crates/spwd_c; the functions here are thin over these, tested and not proved.
  *
  * What the caller owes, since no proof reaches it: pointers are valid for the size given; a file, a record buffer or room for writing
  * out does not overlap the box; one call at a time on one box. A pointer may be NULL where the size beside it is 0.
+ *
+ * Link with libspwd_c.a, which c/library builds under target/c, for two machines:
+ *     x86-64/libspwd_c.a    Linux on x86-64 (ELF, the System V calling convention, position-independent), as the Rattle kit compiles it
+ *     native/libspwd_c.a    the machine that c/library runs on. On x86-64 that is the same file; on aarch64 it is the same LLVM module,
+ *                           compiled for that machine by the kit's clang at the same -O3
+ * The kit itself compiles for x86-64 alone. For another machine the module is compiled as c/library does it on aarch64 (`keeping` gets
+ * hold of it, `compiled` compiles it), with the triple of that machine. It must be one that the kit's clang knows, with pointers and
+ * size_t of 64 bits, since sizes cross as 64-bit numbers; and it must bring memset. None but these two was tried.
  */
 #ifndef SPWD_H
 #define SPWD_H
+
+#include "spwd_raw.h"
 
 #include <stdbool.h>
 #include <stddef.h>
 #include <stdint.h>
 
+/* ---- the version of this interface: one more with each change of what is lent, of the numbers that calls take and give back, or of
+ * the bytes of a plan file or a record */
+
+#define SPWD_VERSION 1
+
 /* ---- sizes */
 
-enum {
+enum spwd_size {
     SPWD_FILE_MOST = 16384,    /* bytes of a plan file that is not refused for its length alone */
     SPWD_WRITTEN_MOST = 13643, /* bytes of a plan written out: room that is always enough */
     SPWD_RECORD_SIZE = 8,
@@ -34,10 +50,11 @@ enum {
     SPWD_LENGTH_MOST = 4096 /* data bytes of a request */
 };
 
-/* ---- document 01's numbers */
+/* ---- document 01's numbers. Fields that hold them have a fixed width, so that a struct is laid out alike whatever size a compiler
+ * gives to an enum: switch ((spwd_refusal)answer.number) lets it warn of those that are left out. */
 
 /* Verdicts. What stands in `values` of a spwd_verdict is given beside each; what is not named is 0. */
-enum {
+typedef enum spwd_verdict_number {
     SPWD_ACCEPTED = 0,           /* devices, links, paths, entries */
     SPWD_FILE_TOO_LONG = 1,      /* 0 */
     SPWD_CUT_OFF = 2,            /* 2 to 11: offset of the tag of the field at fault */
@@ -53,10 +70,10 @@ enum {
     SPWD_NO_INTERVALS = 12,      /* file length */
     SPWD_OVERRUN = 13,           /* initiator, slot */
     SPWD_CLASH = 14              /* slot, smaller initiator, greater initiator, link */
-};
+} spwd_verdict_number;
 
 /* Refusals of events and of writing out. */
-enum {
+typedef enum spwd_refusal {
     SPWD_TAKEN = 0,              /* not refused */
     SPWD_NO_PLAN = 20,           /* every event, writing out */
     SPWD_UPPER_BITS = 21,        /* time-code */
@@ -66,33 +83,24 @@ enum {
     SPWD_NOT_PERMITTED = 25,     /* request */
     SPWD_LINE_FULL = 26,         /* request */
     SPWD_NOTHING_LIVE = 27,      /* reply */
-    SPWD_OTHER_NUMBER = 28,      /* reply */
+    SPWD_OTHER_TRANSACTION = 28, /* reply */
     SPWD_SMALL_BUFFER = 29,      /* time-code */
     SPWD_SMALL_ROOM = 30         /* writing out */
-};
+} spwd_refusal;
 
 /* Kinds of records. */
-enum {
+typedef enum spwd_record_kind {
     SPWD_RECORD_EARLY = 1,
     SPWD_RECORD_LATE = 2,
     SPWD_RECORD_OUT_OF_SEQUENCE = 3,
     SPWD_RECORD_TRANSACTION_LATE = 4,
     SPWD_RECORD_STARTED = 5,
     SPWD_RECORD_STILL_LIVE = 6   /* does not occur with an accepted plan */
-};
+} spwd_record_kind;
 
 /* Kinds of requests, and classes of a reply's status. */
-enum { SPWD_READ = 0, SPWD_WRITE = 1 };
-enum { SPWD_SUCCESS = 0, SPWD_ERROR = 1, SPWD_RESERVED = 2 };
-
-/* The watchdog's five numbers, as they stand in `watchdog` of a box. The caller may write others there before any call. */
-typedef struct spwd_watchdog {
-    uint32_t last;
-    uint32_t seen;
-    uint32_t reported;
-    uint32_t least;
-    uint32_t greatest;
-} spwd_watchdog;
+typedef enum spwd_request_kind { SPWD_READ = 0, SPWD_WRITE = 1 } spwd_request_kind;
+typedef enum spwd_status_class { SPWD_SUCCESS = 0, SPWD_ERROR = 1, SPWD_RESERVED = 2 } spwd_status_class;
 
 /* ---- memory that the caller lends */
 
@@ -119,39 +127,39 @@ typedef struct spwd_box {
 /* ---- what calls give back */
 
 typedef struct spwd_verdict {
-    uint32_t number;
+    uint32_t number; /* a spwd_verdict_number */
     uint32_t values[4];
 } spwd_verdict;
 
 /* SPWD_TAKEN and what the event answers, or a refusal's number; all else 0. */
 typedef struct spwd_answer {
-    uint32_t number;
+    uint32_t number;       /* a spwd_refusal */
     uint32_t records;      /* a time-code: how many records it wrote */
     uint32_t transaction;  /* a request: its transaction number */
     uint32_t target;       /* a reply: the ended transaction's target, length, status and class of status */
     uint32_t length;
     uint32_t status;
-    uint32_t status_class;
+    uint32_t status_class; /* a spwd_status_class */
     uint32_t reading;      /* a clock reading: 1 if it reports lateness */
 } spwd_answer;
 
 /* SPWD_TAKEN and the size, or a refusal's number and 0. */
 typedef struct spwd_written {
-    uint32_t number;
+    uint32_t number; /* a spwd_refusal */
     uint32_t size;
 } spwd_written;
 
 /* One record of a time-code. Kinds 1 to 3 fill kind and value, the rest is 0. */
 typedef struct spwd_record {
-    uint8_t kind;
+    uint8_t kind; /* a spwd_record_kind */
     uint8_t initiator;
     uint8_t target;
     uint8_t value; /* of the time-code: the slot */
-    uint16_t transaction;
+    uint16_t transaction; /* its number */
     uint16_t length;
 } spwd_record;
 
-/* ---- sizes held at compile time, and a number of two bytes */
+/* ---- sizes held at compile time, a number of two bytes, and results that must be looked at: a compiler that can warns where one is not */
 
 #ifdef __cplusplus
 #define SPWD_HOLDS(name, fact) static_assert(fact, #name)
@@ -161,45 +169,19 @@ typedef struct spwd_record {
 #define SPWD_U16(high, low) ((uint16_t)((high) << 8 | (low)))
 #endif
 
+#if (defined(__cplusplus) && __cplusplus >= 201703L) || (defined(__STDC_VERSION__) && __STDC_VERSION__ >= 202311L)
+#define SPWD_MUST_LOOK [[nodiscard]]
+#elif defined(__GNUC__)
+#define SPWD_MUST_LOOK __attribute__((warn_unused_result))
+#else
+#define SPWD_MUST_LOOK
+#endif
+
+SPWD_HOLDS(sizes_of_64_bits, sizeof(size_t) == 8 && sizeof(void *) == 8);
 SPWD_HOLDS(records_room, SPWD_RECORDS_ROOM == 136);
 SPWD_HOLDS(plan_without_gaps, sizeof(spwd_plan) == 6264);
 SPWD_HOLDS(box_without_gaps_but_at_its_end, offsetof(spwd_box, last) == 6264 + 768 + 20);
 SPWD_HOLDS(box_size, sizeof(spwd_box) == 7056);
-
-/* ---- the functions of the archive, in numbers and pointers; the ones below are easier to use */
-
-#ifdef __cplusplus
-extern "C" {
-#endif
-
-void spwd_c_clear(uint64_t sets[3], uint8_t ends[128], uint8_t rows[8], uint64_t reach[8], uint8_t paths[1408], uint8_t spans[512],
-                  uint64_t aims[512], uint32_t numbers[6], uint64_t run[96], uint8_t last[1], spwd_watchdog *watchdog);
-void spwd_c_load(const uint8_t *file, size_t size, uint64_t sets[3], uint8_t ends[128], uint8_t rows[8], uint64_t reach[8],
-                 uint8_t paths[1408], uint8_t spans[512], uint64_t aims[512], uint32_t numbers[6], uint64_t run[96], uint8_t last[1],
-                 spwd_watchdog *watchdog, uint32_t verdict[5]);
-void spwd_c_time_code(const uint8_t spans[512], const uint64_t aims[512], const uint32_t numbers[6], uint64_t run[96], uint8_t last[1],
-                      spwd_watchdog *watchdog, uint8_t byte, uint32_t clock, uint8_t *records, size_t room, uint32_t answer[8]);
-void spwd_c_request(const uint8_t rows[8], const uint8_t spans[512], const uint64_t aims[512], const uint32_t numbers[6],
-                    uint64_t run[96], uint8_t initiator, uint8_t target, uint8_t kind, uint16_t length, uint32_t answer[8]);
-void spwd_c_reply(const uint8_t rows[8], const uint32_t numbers[6], uint64_t run[96], uint8_t initiator, uint16_t number,
-                  uint8_t status, uint32_t answer[8]);
-void spwd_c_reading(const uint32_t numbers[6], spwd_watchdog *watchdog, uint32_t clock, uint32_t answer[8]);
-void spwd_c_write_out(const uint64_t sets[3], const uint8_t ends[128], const uint8_t rows[8], const uint8_t paths[1408],
-                      const uint8_t spans[512], const uint64_t aims[512], const uint32_t numbers[6], uint8_t *out, size_t room,
-                      uint32_t answer[2]);
-size_t spwd_c_print(const uint32_t verdict[5], uint8_t line[40]);
-uint32_t spwd_c_is_blank(const uint64_t sets[3], const uint8_t ends[128], const uint8_t rows[8], const uint64_t reach[8],
-                         const uint8_t paths[1408], const uint8_t spans[512], const uint64_t aims[512], const uint32_t numbers[6],
-                         const uint64_t run[96], const uint8_t last[1], const spwd_watchdog *watchdog);
-uint32_t spwd_c_holds(const uint8_t *file, size_t size, const uint64_t sets[3], const uint8_t ends[128], const uint8_t rows[8],
-                      const uint64_t reach[8], const uint8_t paths[1408], const uint8_t spans[512], const uint64_t aims[512],
-                      const uint32_t numbers[6], uint64_t other_sets[3], uint8_t other_ends[128], uint8_t other_rows[8],
-                      uint64_t other_reach[8], uint8_t other_paths[1408], uint8_t other_spans[512], uint64_t other_aims[512],
-                      uint32_t other_numbers[6]);
-
-#ifdef __cplusplus
-}
-#endif
 
 /* ---- the box */
 
@@ -217,6 +199,20 @@ static inline spwd_answer spwd_answer_of(const uint32_t numbers[8])
     return answer;
 }
 
+/* Answers the version of the archive that is linked.
+ * Refusals: none. */
+static inline uint32_t spwd_version(void)
+{
+    return spwd_c_version();
+}
+
+/* Says whether this header and the archive have the same version. If not, no other function here may be called.
+ * Refusals: none. */
+SPWD_MUST_LOOK static inline bool spwd_version_fits(void)
+{
+    return spwd_version() == SPWD_VERSION;
+}
+
 /* Makes the box the one before any load, every number of it and the five, whatever memory held before.
  * Refusals: none.
  * Left as it was: nothing. */
@@ -230,7 +226,7 @@ static inline void spwd_clear(spwd_box *box)
 /* Judges a plan file and, if it is accepted, puts the box under its plan: nothing waiting or live, the intervals in the five.
  * Refusals: verdicts SPWD_FILE_TOO_LONG to SPWD_CLASH; the box is then that of a clear.
  * Left as it was: the file. What the box held before is gone either way. */
-static inline spwd_verdict spwd_load(spwd_box *box, const uint8_t *file, size_t size)
+SPWD_MUST_LOOK static inline spwd_verdict spwd_load(spwd_box *box, const uint8_t *file, size_t size)
 {
     static const uint8_t nothing[1] = {0};
     spwd_plan *plan = &box->plan;
@@ -249,7 +245,7 @@ static inline spwd_verdict spwd_load(spwd_box *box, const uint8_t *file, size_t 
 /* Takes a time-code: answers how many records of SPWD_RECORD_SIZE bytes it wrote to the buffer, and updates the five.
  * Refusals: SPWD_NO_PLAN, SPWD_UPPER_BITS, SPWD_SMALL_BUFFER (room under SPWD_RECORDS_ROOM).
  * Left as it was: the buffer beyond the records; on a refusal everything, the whole buffer and the five too. */
-static inline spwd_answer spwd_time_code(spwd_box *box, uint8_t byte, uint32_t clock, uint8_t *records, size_t room)
+SPWD_MUST_LOOK static inline spwd_answer spwd_time_code(spwd_box *box, uint8_t byte, uint32_t clock, uint8_t *records, size_t room)
 {
     const spwd_plan *plan = &box->plan;
     uint8_t nothing[1] = {0};
@@ -262,7 +258,7 @@ static inline spwd_answer spwd_time_code(spwd_box *box, uint8_t byte, uint32_t c
 /* Puts a request (SPWD_READ or SPWD_WRITE) into its initiator's line and answers its transaction number.
  * Refusals: SPWD_NO_PLAN, SPWD_NO_INITIATOR, SPWD_UNKNOWN_KIND, SPWD_LENGTH_OVER_MOST, SPWD_NOT_PERMITTED, SPWD_LINE_FULL.
  * Left as it was: the five; on a refusal everything, and the number is not used up. */
-static inline spwd_answer spwd_request(spwd_box *box, uint8_t initiator, uint8_t target, uint8_t kind, uint16_t length)
+SPWD_MUST_LOOK static inline spwd_answer spwd_request(spwd_box *box, uint8_t initiator, uint8_t target, uint8_t kind, uint16_t length)
 {
     const spwd_plan *plan = &box->plan;
     uint32_t answer[8];
@@ -271,20 +267,20 @@ static inline spwd_answer spwd_request(spwd_box *box, uint8_t initiator, uint8_t
 }
 
 /* Ends the live transaction of an initiator and answers its target and length, the status and its class.
- * Refusals: SPWD_NO_PLAN, SPWD_NO_INITIATOR, SPWD_NOTHING_LIVE, SPWD_OTHER_NUMBER.
+ * Refusals: SPWD_NO_PLAN, SPWD_NO_INITIATOR, SPWD_NOTHING_LIVE, SPWD_OTHER_TRANSACTION.
  * Left as it was: lines and the five; on a refusal everything. */
-static inline spwd_answer spwd_reply(spwd_box *box, uint8_t initiator, uint16_t number, uint8_t status)
+SPWD_MUST_LOOK static inline spwd_answer spwd_reply(spwd_box *box, uint8_t initiator, uint16_t transaction, uint8_t status)
 {
     const spwd_plan *plan = &box->plan;
     uint32_t answer[8];
-    spwd_c_reply(plan->rows, plan->numbers, box->run, initiator, number, status, answer);
+    spwd_c_reply(plan->rows, plan->numbers, box->run, initiator, transaction, status, answer);
     return spwd_answer_of(answer);
 }
 
 /* Takes a clock reading: answers 1, once, if the next time-code is overdue by it, and notes in the five that it was reported.
  * Refusals: SPWD_NO_PLAN.
  * Left as it was: all but the five; where it answers 0 or refuses, the five too. */
-static inline spwd_answer spwd_reading(spwd_box *box, uint32_t clock)
+SPWD_MUST_LOOK static inline spwd_answer spwd_reading(spwd_box *box, uint32_t clock)
 {
     uint32_t answer[8];
     spwd_c_reading(box->plan.numbers, &box->watchdog, clock, answer);
@@ -294,7 +290,7 @@ static inline spwd_answer spwd_reading(spwd_box *box, uint32_t clock)
 /* Writes the plan out as a file, in canonical order, and answers its size (at most SPWD_WRITTEN_MOST).
  * Refusals: SPWD_NO_PLAN, SPWD_SMALL_ROOM.
  * Left as it was: the box; room beyond the size; on a refusal all of the room. */
-static inline spwd_written spwd_write_out(const spwd_box *box, uint8_t *out, size_t room)
+SPWD_MUST_LOOK static inline spwd_written spwd_write_out(const spwd_box *box, uint8_t *out, size_t room)
 {
     const spwd_plan *plan = &box->plan;
     uint8_t nothing[1] = {0};
@@ -324,7 +320,7 @@ static inline size_t spwd_print(const spwd_verdict *verdict, uint8_t line[SPWD_L
 /* Says whether every number of the box and of the five is that of a clear.
  * Refusals: none; any memory may be asked about.
  * Left as it was: everything. */
-static inline bool spwd_is_blank(const spwd_box *box)
+SPWD_MUST_LOOK static inline bool spwd_is_blank(const spwd_box *box)
 {
     const spwd_plan *plan = &box->plan;
     return spwd_c_is_blank(plan->sets, plan->ends, plan->rows, plan->reach, plan->paths, plan->spans, plan->aims, plan->numbers,
@@ -334,7 +330,7 @@ static inline bool spwd_is_blank(const spwd_box *box)
 /* Says whether the box holds the plan of this file, whatever the order of its fields. `other` is plan memory to read the file into.
  * Refusals: none; a file that a load refuses is no plan, and the answer is false.
  * Left as it was: the box. `other` need not be cleared before, and has the file's plan afterwards, or none. */
-static inline bool spwd_holds(const spwd_box *box, const uint8_t *file, size_t size, spwd_plan *other)
+SPWD_MUST_LOOK static inline bool spwd_holds(const spwd_box *box, const uint8_t *file, size_t size, spwd_plan *other)
 {
     static const uint8_t nothing[1] = {0};
     const spwd_plan *plan = &box->plan;
@@ -361,5 +357,6 @@ static inline spwd_record spwd_record_at(const uint8_t *records, size_t place)
 
 #undef SPWD_HOLDS
 #undef SPWD_U16
+#undef SPWD_MUST_LOOK
 
 #endif
