@@ -1,7 +1,7 @@
 //! The two sides, called in the same way.
 
 use reference::{print_verdict, Answer, Event, Unit, Watchdog, LINE};
-use spwd::{Spwd, RECORDS_ROOM};
+use spwd::{Refusal, Spwd, Verdict, RECORDS_ROOM};
 
 /// A box of either kind, the five numbers and a record buffer with it. Answers are numbers: 0, or a refusal's.
 pub trait Side {
@@ -15,7 +15,7 @@ pub trait Side {
     /// And how many records.
     fn time_code(&mut self, byte: u8, clock: u32) -> (u8, u8);
     fn request(&mut self, initiator: u8, target: u8, kind: u8, length: u16) -> u8;
-    fn reply(&mut self, initiator: u8, number: u16, status: u8) -> u8;
+    fn reply(&mut self, initiator: u8, transaction: u16, status: u8) -> u8;
     fn reading(&mut self, clock: u32) -> u8;
 }
 
@@ -25,8 +25,8 @@ pub struct Proved {
     records: [u8; RECORDS_ROOM],
 }
 
-fn number<T>(answer: Result<T, spwd::Refusal>) -> u8 {
-    answer.map_or_else(spwd::Refusal::number, |_| 0)
+fn number<T>(answer: Result<T, Refusal>) -> u8 {
+    answer.map_or_else(Refusal::number, |_| 0)
 }
 
 impl Side for Proved {
@@ -42,11 +42,16 @@ impl Side for Proved {
     }
 
     fn load(&mut self, file: &[u8]) -> u8 {
-        self.spwd.load(file).number()
+        self.spwd
+            .load(file)
+            .map_or_else(|fault| fault.number(), |_| 0)
     }
 
     fn line(&mut self, file: &[u8]) -> String {
-        self.spwd.load(file).line().as_str().to_owned()
+        Verdict::from(self.spwd.load(file))
+            .line()
+            .as_str()
+            .to_owned()
     }
 
     fn write_out(&self, out: &mut [u8]) -> usize {
@@ -129,10 +134,10 @@ impl Side for Reference {
         self.step(event).number()
     }
 
-    fn reply(&mut self, initiator: u8, number: u16, status: u8) -> u8 {
+    fn reply(&mut self, initiator: u8, transaction: u16, status: u8) -> u8 {
         let event = Event::Reply {
             initiator,
-            number,
+            number: transaction,
             status,
         };
         self.step(event).number()

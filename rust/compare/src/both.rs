@@ -2,7 +2,7 @@
 
 use crate::theirs;
 use reference::Unit;
-use spwd::{Answer, Event, Plan, Record, Spwd, Watchdog};
+use spwd::{Answer, Event, Plan, Record, Refusal, Spwd, Verdict, Watchdog};
 use spwd::{LINE_ROOM, RECORD_SIZE, WRITTEN_MOST};
 use std::fmt::Debug;
 
@@ -18,6 +18,9 @@ pub struct Difference {
 }
 
 pub type Outcome<T> = Result<T, Difference>;
+
+/// What an event answered, or the number of its refusal.
+pub type Answered = Result<Answer, u8>;
 
 fn same<T: PartialEq + Debug>(what: &'static str, proved: T, reference: T) -> Outcome<T> {
     if proved == reference {
@@ -70,7 +73,7 @@ impl Both {
 
     /// Loads the file into both and gives the verdict's number.
     pub fn load(&mut self, file: &[u8]) -> Outcome<u8> {
-        let verdict = self.proved.load(file);
+        let verdict = Verdict::from(self.proved.load(file));
         let their_verdict = self.unit.load(file, &mut self.watchdog);
         let their_numbers = theirs::verdict(&their_verdict);
         same("verdict", verdict.numbers(), their_numbers)?;
@@ -89,18 +92,25 @@ impl Both {
         self.same_five()
     }
 
-    /// Hands both the event and a record buffer of this size, and gives the answer and the records.
-    pub fn step(&mut self, event: Event, room: usize) -> Outcome<(Answer, Vec<Record>)> {
+    /// Hands both the event and a record buffer of this size, and gives the answer, or a refusal's number, and the records.
+    pub fn step(&mut self, event: Event, room: usize) -> Outcome<(Answered, Vec<Record>)> {
         let (mut records, mut their_records) = (vec![FILLED; room], vec![FILLED; room]);
         let answer = self.proved.step(event, &mut records);
         let event = theirs::event(event);
         let their_answer = self
             .unit
             .step(event, &mut self.watchdog, &mut their_records);
-        same("answer", answer, theirs::answer(&their_answer).into())?;
+        let answer = same(
+            "answer",
+            answer.map_err(Refusal::number),
+            theirs::answer(&their_answer),
+        )?;
         let records = same("records and buffer beyond them", records, their_records)?;
         self.same_five()?;
-        let count = answer.records as u8;
+        let count = match answer {
+            Ok(Answer::Recorded(count)) => count,
+            _ => 0,
+        };
         let beyond = usize::from(count) * RECORD_SIZE;
         let untouched = records[beyond..].iter().all(|&byte| byte == FILLED);
         same("buffer beyond the records untouched", untouched, true)?;

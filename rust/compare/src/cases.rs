@@ -1,6 +1,6 @@
 //! The cases: files, histories, and a history so long that transaction numbers run round.
 
-use crate::both::{Both, Difference, Outcome, Question};
+use crate::both::{Answered, Both, Difference, Outcome, Question};
 use crate::damage::{damaged, noise};
 use crate::events::{five, Actor};
 use crate::plans;
@@ -121,14 +121,17 @@ impl<'a> Case<'a> {
         };
         let mut before = 0;
         for count in 0..65_600_u32 {
-            let number = self.take(request, 0)?.transaction;
-            self.tally.rounds += u64::from((before, number) == (65_535, 0));
-            before = number;
+            let transaction = match self.take(request, 0)? {
+                Ok(Answer::Joined(transaction)) => transaction,
+                _ => 0,
+            };
+            self.tally.rounds += u64::from((before, transaction) == (65_535, 0));
+            before = transaction;
             let time_code = Event::TimeCode {
                 byte: (count % 64) as u8,
                 clock: count.wrapping_mul(100),
             };
-            self.take(time_code, RECORDS_ROOM)?;
+            self.take(time_code, RECORDS_ROOM).map(drop)?;
         }
         Ok(())
     }
@@ -164,15 +167,14 @@ impl<'a> Case<'a> {
             0 => self.random.below(RECORDS_ROOM + 1),
             _ => RECORDS_ROOM + self.random.below(30),
         };
-        self.take(event, room)?;
-        Ok(())
+        self.take(event, room).map(drop)
     }
 
-    fn take(&mut self, event: Event, room: usize) -> Outcome<Answer> {
+    fn take(&mut self, event: Event, room: usize) -> Outcome<Answered> {
         self.call = format!("{event:?} with {room} bytes for records");
         let (answer, records) = self.both.step(event, room)?;
-        self.tally.event(&event, &answer, &records);
-        if answer.number == 0 {
+        self.tally.event(&answer, &records);
+        if answer.is_ok() {
             self.actor.learn(&event, &records);
         }
         self.after()?;

@@ -89,7 +89,7 @@ impl Actor {
     }
 
     fn reply(&self, strange: bool, random: &mut Random) -> Event {
-        let (mut initiator, mut number) = match self.live[..] {
+        let (mut initiator, mut transaction) = match self.live[..] {
             [] => (random.byte() % 64, 0),
             _ => random.pick(&self.live),
         };
@@ -100,12 +100,12 @@ impl Actor {
             initiator = random.byte();
         }
         if random.chance(60) {
-            number = number.wrapping_add(random.pick(&[1, 2, 256, u16::MAX]));
+            transaction = transaction.wrapping_add(random.pick(&[1, 2, 256, u16::MAX]));
         }
         let status = random.byte() >> random.below(8);
         Event::Reply {
             initiator,
-            number,
+            transaction,
             status,
         }
     }
@@ -115,15 +115,17 @@ impl Actor {
         match *event {
             Event::TimeCode { byte, .. } => self.last = Some(byte % 64),
             Event::Reply {
-                initiator, number, ..
-            } => self.live.retain(|&live| live != (initiator, number)),
+                initiator,
+                transaction,
+                ..
+            } => self.live.retain(|&live| live != (initiator, transaction)),
             _ => {}
         }
         for record in records {
-            let transaction = (record.initiator, record.number);
+            let told = (record.initiator, record.transaction);
             match record.kind {
-                Record::STARTED => self.live.push(transaction),
-                Record::TRANSACTION_LATE => self.live.retain(|&live| live != transaction),
+                Record::STARTED => self.live.push(told),
+                Record::TRANSACTION_LATE => self.live.retain(|&live| live != told),
                 _ => {}
             }
         }

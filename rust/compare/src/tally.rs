@@ -1,7 +1,7 @@
 //! What was reached, and how often.
 
-use crate::both::After;
-use spwd::{Answer, Event, Record};
+use crate::both::{After, Answered};
+use spwd::{Answer, Record};
 use std::fmt;
 
 #[derive(Default)]
@@ -28,13 +28,13 @@ impl Tally {
         self.verdicts[usize::from(number)] += 1;
     }
 
-    pub fn event(&mut self, event: &Event, answer: &Answer, records: &[Record]) {
+    pub fn event(&mut self, answer: &Answered, records: &[Record]) {
         self.events += 1;
-        match event {
-            _ if answer.number != 0 => self.refusals[answer.number as usize] += 1,
-            Event::Reply { .. } => self.classes[answer.class as usize] += 1,
-            Event::Reading { .. } => self.readings[answer.reading as usize] += 1,
-            _ => {}
+        match *answer {
+            Err(number) => self.refusals[usize::from(number)] += 1,
+            Ok(Answer::Ended(ended)) => self.classes[usize::from(ended.status_class)] += 1,
+            Ok(Answer::Told(late)) => self.readings[usize::from(late)] += 1,
+            Ok(Answer::Recorded(_) | Answer::Joined(_)) => {}
         }
         for record in records {
             self.kinds[usize::from(record.kind)] += 1;

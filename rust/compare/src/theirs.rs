@@ -1,6 +1,8 @@
-//! The reference's answers in document 01's numbers.
+//! The reference's answers as the proved box gives them, and its verdicts in document 01's numbers.
 
+use crate::both::Answered;
 use reference::{Answer, Event, Unit, Verdict, Watchdog, WRITTEN_OUT};
+use spwd::Ended;
 
 pub fn verdict(verdict: &Verdict) -> [u32; 5] {
     let number = verdict.number().into();
@@ -34,28 +36,23 @@ pub fn verdict(verdict: &Verdict) -> [u32; 5] {
     }
 }
 
-/// Number, record count, transaction number, target, length, status, class, reading.
-pub fn answer(answer: &Answer) -> [u32; 8] {
+pub fn answer(answer: &Answer) -> Answered {
     match *answer {
-        Answer::Refused(refusal) => [refusal as u32, 0, 0, 0, 0, 0, 0, 0],
-        Answer::Records { count } => [0, count.into(), 0, 0, 0, 0, 0, 0],
-        Answer::Taken { number } => [0, 0, number.into(), 0, 0, 0, 0, 0],
+        Answer::Refused(refusal) => Err(refusal as u8),
+        Answer::Records { count } => Ok(spwd::Answer::Recorded(count)),
+        Answer::Taken { number } => Ok(spwd::Answer::Joined(number)),
         Answer::Ended {
             target,
             length,
             status,
             class,
-        } => [
-            0,
-            0,
-            0,
-            target.into(),
-            length.into(),
-            status.into(),
-            class.into(),
-            0,
-        ],
-        Answer::Reading { late } => [0, 0, 0, 0, 0, 0, 0, late.into()],
+        } => Ok(spwd::Answer::Ended(Ended {
+            target,
+            length,
+            status,
+            status_class: class,
+        })),
+        Answer::Reading { late } => Ok(spwd::Answer::Told(late)),
     }
 }
 
@@ -75,11 +72,11 @@ pub fn event(event: spwd::Event) -> Event {
         },
         spwd::Event::Reply {
             initiator,
-            number,
+            transaction,
             status,
         } => Event::Reply {
             initiator,
-            number,
+            number: transaction,
             status,
         },
         spwd::Event::Reading { clock } => Event::Reading { clock },

@@ -1,7 +1,7 @@
 //! The verdict on a file: the proved box's, and how it is said.
 
 use crate::words;
-use spwd::{Spwd, Verdict, WRITTEN_MOST};
+use spwd::{Counts, Fault, Spwd, Verdict, WRITTEN_MOST};
 
 /// A verdict, and the plan as the box holds it then: nothing if it was refused.
 pub struct Judged {
@@ -12,7 +12,7 @@ pub struct Judged {
 /// Loads a file into a box of its own.
 pub fn judge(file: &[u8]) -> Judged {
     let mut desk = Spwd::new();
-    let verdict = desk.load(file);
+    let verdict = desk.load(file).into();
     let mut held = vec![0; WRITTEN_MOST];
     let size = desk.write_out(&mut held).unwrap_or(0);
     held.truncate(size);
@@ -22,19 +22,31 @@ pub fn judge(file: &[u8]) -> Judged {
 /// What follows a verdict's number, in words; nothing where it says nothing.
 pub fn place(verdict: &Verdict) -> Option<String> {
     match verdict {
-        Verdict::Accepted {
+        Verdict::Accepted(Counts {
             devices,
             links,
             paths,
             entries,
-        } => Some(format!(
+        }) => Some(format!(
             "devices {devices}, links {links}, paths {paths}, entries {entries}"
         )),
-        Verdict::Faulty { number: 1, .. } => None,
-        Verdict::Faulty { number: 12, place } => Some(format!("file length {place}")),
-        Verdict::Faulty { place, .. } => Some(format!("offset {place}")),
-        Verdict::Overrun { initiator, slot } => Some(format!("initiator {initiator}, slot {slot}")),
-        Verdict::Clash {
+        Verdict::Refused(fault) => fault_place(fault),
+    }
+}
+
+fn fault_place(fault: &Fault) -> Option<String> {
+    match fault {
+        Fault::File {
+            number: Verdict::FILE_TOO_LONG,
+            ..
+        } => None,
+        Fault::File {
+            number: Verdict::NO_INTERVALS,
+            place,
+        } => Some(format!("file length {place}")),
+        Fault::File { place, .. } => Some(format!("offset {place}")),
+        Fault::Overrun { initiator, slot } => Some(format!("initiator {initiator}, slot {slot}")),
+        Fault::Clash {
             slot,
             smaller,
             greater,

@@ -7,23 +7,21 @@ use crate::judge::{in_words, judge, Judged};
 use crate::network::network;
 use crate::plan::Plan;
 use crate::source::Source;
-use spwd::Verdict;
+use spwd::{Fault, Verdict};
 
 /// The lines of a page, and whether the plan was accepted.
 pub fn page(source: &Source) -> (Vec<String>, bool) {
     let judged = judge(source.bytes());
     let mut lines = in_words(&judged.verdict);
-    let accepted = judged.verdict.is_accepted();
-    let behind = if accepted {
-        held(&judged)
-    } else {
-        behind(source, &judged.verdict)
+    let behind = match &judged.verdict {
+        Verdict::Accepted(_) => held(&judged),
+        Verdict::Refused(fault) => behind(source, fault),
     };
     if !behind.is_empty() {
         lines.push(String::new());
         lines.extend(behind);
     }
-    (lines, accepted)
+    (lines, judged.verdict.is_accepted())
 }
 
 /// The plan as the box holds it.
@@ -36,20 +34,20 @@ fn held(judged: &Judged) -> Vec<String> {
 }
 
 /// What a refusal is about.
-pub fn behind(source: &Source, verdict: &Verdict) -> Vec<String> {
+pub fn behind(source: &Source, fault: &Fault) -> Vec<String> {
     let plan = Plan::of(source.bytes());
-    match *verdict {
-        Verdict::Faulty {
-            number: number @ 2..=11,
+    match *fault {
+        Fault::File {
+            number: number @ Verdict::CUT_OFF..=Verdict::NO_PATH,
             place,
         } => field_in_words(source, number, place.into()),
-        Verdict::Overrun { initiator, slot } => overrun(source, &plan, initiator, slot),
-        Verdict::Clash {
+        Fault::File { .. } => Vec::new(),
+        Fault::Overrun { initiator, slot } => overrun(source, &plan, initiator, slot),
+        Fault::Clash {
             slot,
             smaller,
             greater,
             link,
         } => clash(source, &plan, slot, [smaller, greater], link),
-        _ => Vec::new(),
     }
 }

@@ -4,7 +4,7 @@ use crate::judge;
 use crate::layout::{printable, shortened};
 use crate::script::{line_of, Command, Line};
 use crate::words::{self, Row};
-use spwd::{records, Record, Spwd, Watchdog};
+use spwd::{records, Record, Spwd, Verdict, Watchdog};
 
 /// A box and the line that its panel shows next.
 pub struct Panel {
@@ -61,9 +61,9 @@ impl Panel {
             } => self.request(initiator, target, kind, length),
             Command::Reply {
                 initiator,
-                number,
+                transaction,
                 status,
-            } => self.reply(initiator, number, status),
+            } => self.reply(initiator, transaction, status),
             Command::Reading { clock } => self.reading(clock),
             Command::Out { room } => self.write_out(room),
             Command::Watchdog => vec![five("watchdog", &self.desk.watchdog())],
@@ -81,7 +81,7 @@ impl Panel {
     }
 
     fn load(&mut self, file: &[u8]) -> Vec<String> {
-        let verdict = self.desk.load(file);
+        let verdict = Verdict::from(self.desk.load(file));
         let row = words::verdict(verdict.number());
         let place = judge::place(&verdict).map_or(String::new(), |place| format!(" ({place})"));
         let none = if verdict.is_accepted() {
@@ -121,8 +121,8 @@ impl Panel {
     fn request(&mut self, initiator: u8, target: u8, kind: u8, length: u16) -> Vec<String> {
         let what = format!("{}, {}", words::request_kind(kind), words::bytes(length));
         match self.desk.request(initiator, target, kind, length) {
-            Ok(number) => vec![format!(
-                "request: initiator {initiator} number {number} to target {target}, {what}: waiting"
+            Ok(transaction) => vec![format!(
+                "request: initiator {initiator} number {transaction} to target {target}, {what}: waiting"
             )],
             Err(refusal) => self.refused(
                 &format!("request: initiator {initiator} to target {target}, {what}"),
@@ -131,17 +131,17 @@ impl Panel {
         }
     }
 
-    fn reply(&mut self, initiator: u8, number: u16, status: u8) -> Vec<String> {
-        match self.desk.reply(initiator, number, status) {
+    fn reply(&mut self, initiator: u8, transaction: u16, status: u8) -> Vec<String> {
+        match self.desk.reply(initiator, transaction, status) {
             Ok(ended) => {
-                let transaction = words::transaction(number, ended.target, ended.length);
-                let (status, class) = (ended.status, words::class(ended.class));
+                let which = words::transaction(transaction, ended.target, ended.length);
+                let (status, class) = (ended.status, words::class(ended.status_class));
                 vec![format!(
-                    "reply: initiator {initiator} {transaction}: ended, status {status} ({class})"
+                    "reply: initiator {initiator} {which}: ended, status {status} ({class})"
                 )]
             }
             Err(refusal) => self.refused(
-                &format!("reply: initiator {initiator} number {number}"),
+                &format!("reply: initiator {initiator} number {transaction}"),
                 refusal.number(),
             ),
         }

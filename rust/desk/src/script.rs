@@ -17,7 +17,7 @@ pub enum Command {
     },
     Reply {
         initiator: u8,
-        number: u16,
+        transaction: u16,
         status: u8,
     },
     Reading {
@@ -74,9 +74,9 @@ fn command_of(line: &[u8]) -> Option<Command> {
             kind: byte(kind)?,
             length: short(length)?,
         }),
-        (b"rep", [initiator, number, status]) => Some(Command::Reply {
+        (b"rep", [initiator, transaction, status]) => Some(Command::Reply {
             initiator: byte(initiator)?,
-            number: short(number)?,
+            transaction: short(transaction)?,
             status: byte(status)?,
         }),
         (b"clk", [clock]) => long(clock).map(|clock| Command::Reading { clock }),

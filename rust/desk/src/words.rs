@@ -1,6 +1,6 @@
 //! The words of docs/CARD.md for verdicts, refusals and records, and the short ones of a panel. tests/card.rs holds them against the card.
 
-use spwd::Record;
+use spwd::{Record, ERROR, READ, SUCCESS, WRITE};
 
 /// A row of the card: what a number means and what to do about it.
 #[derive(Clone, Copy, Debug, PartialEq, Eq)]
@@ -245,7 +245,7 @@ pub fn record(kind: u8) -> Row {
 /// What a panel says of a record.
 pub fn record_on_panel(record: &Record) -> String {
     let initiator = record.initiator;
-    let transaction = transaction(record.number, record.target, record.length);
+    let transaction = transaction(record.transaction, record.target, record.length);
     match record.kind {
         Record::EARLY => "time-code early".to_string(),
         Record::LATE => "time-code late".to_string(),
@@ -274,8 +274,8 @@ pub fn bytes(length: u16) -> String {
 /// The class of a reply's status.
 pub fn class(class: u8) -> &'static str {
     match class {
-        0 => "success",
-        1 => "error",
+        SUCCESS => "success",
+        ERROR => "error",
         _ => "reserved",
     }
 }
@@ -283,8 +283,8 @@ pub fn class(class: u8) -> &'static str {
 /// The kind of a request.
 pub fn request_kind(kind: u8) -> String {
     match kind {
-        0 => "read".to_string(),
-        1 => "write".to_string(),
+        READ => "read".to_string(),
+        WRITE => "write".to_string(),
         _ => format!("kind {kind}"),
     }
 }

@@ -171,7 +171,7 @@ fn numbers_in_their_places() {
         command("rep 1 2 3"),
         Command::Reply {
             initiator: 1,
-            number: 2,
+            transaction: 2,
             status: 3
         }
     );

@@ -6,7 +6,7 @@ use common::{bytes, plans, Chance};
 use desk::judge::judge;
 use desk::page::page;
 use desk::source::Source;
-use spwd::Verdict;
+use spwd::{Fault, Verdict};
 
 /// A plan with a byte changed, or with fields left out, doubled or exchanged.
 fn damaged(chance: &mut Chance, file: &[u8]) -> Vec<u8> {
@@ -50,9 +50,12 @@ fn explained(file: &[u8], verdict: &Verdict, lines: &[String]) {
         .filter(|line| line.starts_with("    "))
         .count();
     match *verdict {
-        Verdict::Accepted { .. } => assert!(behind.len() > 4),
-        Verdict::Faulty { number: 1 | 12, .. } => assert!(behind.is_empty()),
-        Verdict::Faulty { place, .. } => {
+        Verdict::Accepted(_) => assert!(behind.len() > 4),
+        Verdict::Refused(Fault::File {
+            number: Verdict::FILE_TOO_LONG | Verdict::NO_INTERVALS,
+            ..
+        }) => assert!(behind.is_empty()),
+        Verdict::Refused(Fault::File { place, .. }) => {
             assert!(behind[0].starts_with(&format!("the field at offset {place}: ")));
             let field = desk::fields::fields(file)
                 .into_iter()
@@ -60,14 +63,14 @@ fn explained(file: &[u8], verdict: &Verdict, lines: &[String]) {
             let said = usize::from(field.unwrap().item().is_some());
             assert!(indented > said, "{verdict}: {lines:?}");
         }
-        Verdict::Overrun { .. } => {
+        Verdict::Refused(Fault::Overrun { .. }) => {
             let entries = behind
                 .iter()
                 .filter(|line| line.starts_with("  entry of "))
                 .count();
             assert!(entries >= 2, "{verdict}: {lines:?}");
         }
-        Verdict::Clash { link, .. } => {
+        Verdict::Refused(Fault::Clash { link, .. }) => {
             let entries = behind
                 .iter()
                 .filter(|line| line.starts_with("  entry of "))

@@ -1,7 +1,7 @@
 //! epoch [FILE]: loads a plan (FILE, or the first sample of document 01), runs the box for one epoch of 64 time-codes with a few
 //! requests, replies and clock readings, and prints what it answers: the same as `c/example.c`.
 
-use spwd::{records, Plan, Record, Spwd, READ, RECORDS_ROOM, WRITE, WRITTEN_MOST};
+use spwd::{records, Plan, Record, Spwd, Verdict, READ, RECORDS_ROOM, SLOTS, WRITE, WRITTEN_MOST};
 use std::process::ExitCode;
 
 /// plans/sample-first.plan: nodes 1 to 4, routers 10 and 11; 1 may start to 3 and 2 to 4 in slot 0; intervals 90 to 110.
@@ -15,6 +15,11 @@ const FIRST_SAMPLE: &[u8] = &[
 ];
 
 fn main() -> ExitCode {
+    if !spwd::version_fits() {
+        let (ours, archive) = (spwd::VERSION, spwd::version());
+        eprintln!("the wrapper has version {ours}, the archive {archive}");
+        return ExitCode::from(3);
+    }
     let file = match std::env::args_os().nth(1) {
         None => FIRST_SAMPLE.to_vec(),
         Some(name) => match std::fs::read(&name) {
@@ -26,7 +31,7 @@ fn main() -> ExitCode {
         },
     };
     let mut spwd = Spwd::new();
-    let verdict = spwd.load(&file);
+    let verdict = Verdict::from(spwd.load(&file));
     print!("{}", verdict.line().as_str());
     if verdict.is_accepted() && runs(&mut spwd) {
         ExitCode::SUCCESS
@@ -56,8 +61,8 @@ fn runs(spwd: &mut Spwd) -> bool {
 fn epoch(spwd: &mut Spwd) {
     // It runs round past its top on the way.
     let mut clock = u32::MAX - 1000;
-    for count in 0..64 {
-        let value = (62 + count) % 64;
+    for count in 0..SLOTS {
+        let value = (62 + count) % SLOTS;
         clock = clock.wrapping_add(after_the_last(value));
         time_code(spwd, value, clock);
         between(spwd, value, clock);
@@ -125,11 +130,11 @@ fn print_record(record: Record) {
         let Record {
             initiator,
             target,
-            number,
+            transaction,
             length,
             ..
         } = record;
-        print!(" {initiator} to {target}, number {number}, {length} bytes");
+        print!(" {initiator} to {target}, number {transaction}, {length} bytes");
     }
     println!();
 }
@@ -138,17 +143,17 @@ fn request(spwd: &mut Spwd, initiator: u8, target: u8, kind: u8, length: u16) {
     let word = if kind == READ { "read" } else { "write" };
     print!("request {initiator} to {target}, {word}, {length} bytes: ");
     match spwd.request(initiator, target, kind, length) {
-        Ok(number) => println!("number {number}"),
+        Ok(transaction) => println!("number {transaction}"),
         Err(refusal) => println!("{refusal}"),
     }
 }
 
-fn reply(spwd: &mut Spwd, initiator: u8, number: u16, status: u8) {
-    print!("reply to {initiator}, number {number}, status {status}: ");
-    match spwd.reply(initiator, number, status) {
+fn reply(spwd: &mut Spwd, initiator: u8, transaction: u16, status: u8) {
+    print!("reply to {initiator}, number {transaction}, status {status}: ");
+    match spwd.reply(initiator, transaction, status) {
         Ok(ended) => println!(
             "from {}, {} bytes, class {}",
-            ended.target, ended.length, ended.class
+            ended.target, ended.length, ended.status_class
         ),
         Err(refusal) => println!("{refusal}"),
     }

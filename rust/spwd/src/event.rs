@@ -1,11 +1,18 @@
 //! What goes into a step and what it answers.
 
-use crate::refusal::{taken, Refusal};
+use crate::refusal::Refusal;
 
 /// The kind of a request that reads.
 pub const READ: u8 = 0;
 /// The kind of a request that writes.
 pub const WRITE: u8 = 1;
+
+/// The class of a reply's status that says success.
+pub const SUCCESS: u8 = 0;
+/// The class of one that the RMAP standard names as an error.
+pub const ERROR: u8 = 1;
+/// The class of one that it reserves.
+pub const RESERVED: u8 = 2;
 
 /// What can happen to a box under a plan.
 #[derive(Clone, Copy, Debug, PartialEq, Eq)]
@@ -33,7 +40,7 @@ pub enum Event {
         /// Whose transaction it ends.
         initiator: u8,
         /// The transaction's number.
-        number: u16,
+        transaction: u16,
         /// The status byte of the reply.
         status: u8,
     },
@@ -44,52 +51,18 @@ pub enum Event {
     },
 }
 
-/// The eight numbers that an event answers: 0 and its own, or a refusal's and nothing else; all else 0.
-#[derive(Clone, Copy, Debug, Default, PartialEq, Eq)]
-pub struct Answer {
-    /// 0, or the number of the refusal.
-    pub number: u32,
+/// What an event answers that is taken.
+#[must_use]
+#[derive(Clone, Copy, Debug, PartialEq, Eq)]
+pub enum Answer {
     /// A time-code: how many records it wrote.
-    pub records: u32,
+    Recorded(u8),
     /// A request: its transaction number.
-    pub transaction: u32,
-    /// A reply: the ended transaction's target.
-    pub target: u32,
-    /// And its length.
-    pub length: u32,
-    /// And the status of the reply.
-    pub status: u32,
-    /// And the class of that: 0 success, 1 error, 2 reserved.
-    pub class: u32,
-    /// A clock reading: 1 if it reports lateness.
-    pub reading: u32,
-}
-
-impl Answer {
-    /// Whether the event was taken.
-    ///
-    /// # Errors
-    /// The refusal, if it was not.
-    pub fn taken(&self) -> Result<(), Refusal> {
-        taken(self.number)
-    }
-}
-
-impl From<[u32; 8]> for Answer {
-    /// From the numbers in document 01's order.
-    fn from(numbers: [u32; 8]) -> Self {
-        let [number, records, transaction, target, length, status, class, reading] = numbers;
-        Self {
-            number,
-            records,
-            transaction,
-            target,
-            length,
-            status,
-            class,
-            reading,
-        }
-    }
+    Joined(u16),
+    /// A reply: the transaction that it ended.
+    Ended(Ended),
+    /// A clock reading: whether it reports lateness.
+    Told(bool),
 }
 
 /// The transaction that a reply ended.
@@ -101,6 +74,24 @@ pub struct Ended {
     pub length: u16,
     /// The status of the reply.
     pub status: u8,
-    /// The class of that: 0 success, 1 error, 2 reserved.
-    pub class: u8,
+    /// The class of that: [`SUCCESS`], [`ERROR`] or [`RESERVED`].
+    pub status_class: u8,
+}
+
+/// Document 01's eight numbers of an answer: 0 and its own, or a refusal's; all else 0.
+pub(crate) fn eight(answer: Result<Answer, Refusal>) -> [u32; 8] {
+    let mut numbers = [0; 8];
+    match answer {
+        Err(refusal) => numbers[0] = refusal.number().into(),
+        Ok(Answer::Recorded(count)) => numbers[1] = count.into(),
+        Ok(Answer::Joined(transaction)) => numbers[2] = transaction.into(),
+        Ok(Answer::Ended(ended)) => {
+            numbers[3] = ended.target.into();
+            numbers[4] = ended.length.into();
+            numbers[5] = ended.status.into();
+            numbers[6] = ended.status_class.into();
+        }
+        Ok(Answer::Told(late)) => numbers[7] = late.into(),
+    }
+    numbers
 }

@@ -4,10 +4,12 @@
 //! requests, replies and clock readings, writes records and the plan, and can be cleared. What decides is the proved library
 //! (`crates/spwd_c`, linked as `libspwd_c.a`); here its numbers get names and types, and nothing else happens.
 //!
-//! Numbers are those of document 01; `docs/CARD.md` says of each what it means and what to do.
+//! Numbers are those of document 01; `docs/CARD.md` says of each what it means and what to do. Whatever can be refused answers a
+//! [`Result`]: a load the [`Counts`] of the plan or the [`Fault`] of the file, events and writing out what they have to say or a
+//! [`Refusal`].
 //!
 //! ```
-//! use spwd::{records, Record, Spwd, Verdict, READ, RECORDS_ROOM};
+//! use spwd::{records, Counts, Record, Spwd, READ, RECORDS_ROOM};
 //!
 //! // One link between nodes 1 and 2, and 1 may start to 2 in slot 5.
 //! let plan = [
@@ -15,8 +17,8 @@
 //!     5, 0, 8, 0, 0, 0, 90, 0, 0, 0, 110,
 //! ];
 //! let mut spwd = Spwd::new();
-//! let verdict = spwd.load(&plan);
-//! assert_eq!(verdict, Verdict::Accepted { devices: 2, links: 1, paths: 1, entries: 1 });
+//! let counts = spwd.load(&plan).unwrap();
+//! assert_eq!(counts, Counts { devices: 2, links: 1, paths: 1, entries: 1 });
 //! assert_eq!(spwd.request(1, 2, READ, 100), Ok(0));
 //!
 //! let mut buffer = [0; RECORDS_ROOM];
@@ -36,13 +38,16 @@ mod spwd;
 mod verdict;
 mod watchdog;
 
-pub use event::{Answer, Ended, Event, READ, WRITE};
+pub use event::{Answer, Ended, Event, ERROR, READ, RESERVED, SUCCESS, WRITE};
 pub use plan::Plan;
 pub use record::{records, Record, Records};
 pub use refusal::Refusal;
 pub use spwd::Spwd;
-pub use verdict::{Line, Verdict};
+pub use verdict::{Counts, Fault, Line, Verdict};
 pub use watchdog::Watchdog;
+
+/// The version of the interface that this crate is written for; `SPWD_VERSION` of `c/spwd.h`.
+pub const VERSION: u32 = 1;
 
 /// Bytes of the longest plan file that is not refused for its length alone.
 pub const FILE_MOST: usize = 16_384;
@@ -56,3 +61,25 @@ pub const RECORDS_MOST: usize = 17;
 pub const RECORDS_ROOM: usize = RECORD_SIZE * RECORDS_MOST;
 /// Bytes of the buffer for a printed verdict.
 pub const LINE_ROOM: usize = 40;
+/// Slots of a table.
+pub const SLOTS: u8 = 64;
+/// How many initiators a plan has at most.
+pub const INITIATORS_MOST: usize = 8;
+/// How many paths.
+pub const PATHS_MOST: usize = 128;
+/// How many requests of an initiator wait at most.
+pub const WAITING_MOST: usize = 8;
+/// Data bytes of a request at most.
+pub const LENGTH_MOST: u16 = 4_096;
+
+/// The version of the archive that is linked.
+pub fn version() -> u32 {
+    raw::version()
+}
+
+/// Whether the archive has the version that this crate is written for. If not, nothing else here may be called. A load asks it too
+/// where debug assertions are on.
+#[must_use]
+pub fn version_fits() -> bool {
+    version() == VERSION
+}

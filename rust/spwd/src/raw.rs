@@ -27,6 +27,7 @@ pub(crate) type Last = [u8; 1];
 struct Answer(MaybeUninit<[u32; 8]>);
 
 extern "C" {
+    fn spwd_c_version() -> u32;
     fn spwd_c_clear(
         sets: &mut Sets,
         ends: &mut Ends,
@@ -86,7 +87,7 @@ extern "C" {
         numbers: &Numbers,
         run: &mut Run,
         initiator: u8,
-        number: u16,
+        transaction: u16,
         status: u8,
         answer: &mut Answer,
     );
@@ -137,6 +138,12 @@ extern "C" {
         other_aims: &mut Aims,
         other_numbers: &mut Numbers,
     ) -> u32;
+}
+
+#[inline]
+pub(crate) fn version() -> u32 {
+    // SAFETY: it takes nothing and answers a number.
+    unsafe { spwd_c_version() }
 }
 
 #[inline]
@@ -255,7 +262,7 @@ pub(crate) fn reply(
     plan: &Plan,
     run: &mut Run,
     initiator: u8,
-    number: u16,
+    transaction: u16,
     status: u8,
 ) -> [u32; 8] {
     let mut answer = Answer(MaybeUninit::uninit());
@@ -266,7 +273,7 @@ pub(crate) fn reply(
             &plan.numbers,
             run,
             initiator,
-            number,
+            transaction,
             status,
             &mut answer,
         );

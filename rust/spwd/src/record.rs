@@ -15,7 +15,7 @@ pub struct Record {
     /// The time-code's value: the slot.
     pub value: u8,
     /// The transaction's number.
-    pub number: u16,
+    pub transaction: u16,
     /// Its data bytes.
     pub length: u16,
 }
@@ -36,29 +36,28 @@ impl Record {
 
     /// The record of these bytes.
     pub const fn from_bytes(bytes: [u8; RECORD_SIZE]) -> Self {
-        let [kind, initiator, target, value, number_high, number_low, length_high, length_low] =
-            bytes;
+        let [kind, initiator, target, value, transaction @ .., length_high, length_low] = bytes;
         Self {
             kind,
             initiator,
             target,
             value,
-            number: u16::from_be_bytes([number_high, number_low]),
+            transaction: u16::from_be_bytes(transaction),
             length: u16::from_be_bytes([length_high, length_low]),
         }
     }
 
     /// The bytes of this record.
     pub const fn to_bytes(self) -> [u8; RECORD_SIZE] {
-        let [number_high, number_low] = self.number.to_be_bytes();
+        let [transaction_high, transaction_low] = self.transaction.to_be_bytes();
         let [length_high, length_low] = self.length.to_be_bytes();
         [
             self.kind,
             self.initiator,
             self.target,
             self.value,
-            number_high,
-            number_low,
+            transaction_high,
+            transaction_low,
             length_high,
             length_low,
         ]

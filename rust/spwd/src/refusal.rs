@@ -4,6 +4,7 @@ use core::fmt;
 use core::num::NonZeroU8;
 
 /// Why an event or writing out was refused: 20 to 30. A refusal changes nothing.
+#[must_use]
 #[derive(Clone, Copy, Debug, PartialEq, Eq, PartialOrd, Ord, Hash)]
 pub struct Refusal(NonZeroU8);
 
@@ -16,16 +17,16 @@ impl Refusal {
     pub const NO_INITIATOR: Self = Self::of(22);
     /// 23, request: the kind is neither [`READ`](crate::READ) nor [`WRITE`](crate::WRITE).
     pub const UNKNOWN_KIND: Self = Self::of(23);
-    /// 24, request: length over 4,096.
+    /// 24, request: length over [`LENGTH_MOST`](crate::LENGTH_MOST).
     pub const LENGTH_OVER_MOST: Self = Self::of(24);
     /// 25, request: no entry of this initiator permits the target with this length.
     pub const NOT_PERMITTED: Self = Self::of(25);
-    /// 26, request: eight are waiting already.
+    /// 26, request: [`WAITING_MOST`](crate::WAITING_MOST) are waiting already.
     pub const LINE_FULL: Self = Self::of(26);
     /// 27, reply: nothing is live.
     pub const NOTHING_LIVE: Self = Self::of(27);
     /// 28, reply: the number is not the live transaction's.
-    pub const OTHER_NUMBER: Self = Self::of(28);
+    pub const OTHER_TRANSACTION: Self = Self::of(28);
     /// 29, time-code: the record buffer is under [`RECORDS_ROOM`](crate::RECORDS_ROOM).
     pub const SMALL_BUFFER: Self = Self::of(29);
     /// 30, writing out: the room is under the size needed.

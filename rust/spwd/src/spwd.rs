@@ -1,10 +1,11 @@
 //! The box.
 
-use crate::event::{Answer, Ended, Event};
+use crate::event::{eight, Answer, Ended, Event};
 use crate::plan::Plan;
 use crate::raw;
 use crate::refusal::{taken, Refusal};
-use crate::verdict::Verdict;
+use crate::verdict::{judged, Counts, Fault};
+use crate::version_fits;
 use crate::watchdog::Watchdog;
 
 /// One box: a plan, the initiators that run under it, and the watchdog's five numbers.
@@ -43,10 +44,15 @@ impl Spwd {
         );
     }
 
-    /// Judges a plan file. Accepted, it replaces everything: nothing waits, nothing is live, numbers begin at 0, and the five have its
-    /// intervals. Refused, the box is that of a clear.
-    pub fn load(&mut self, file: &[u8]) -> Verdict {
-        Verdict::from_numbers(raw::load(
+    /// Judges a plan file and gives the counts of its plan. Accepted, it replaces everything: nothing waits, nothing is live, numbers
+    /// begin at 0, and the five have its intervals. Refused, the box is that of a clear.
+    /// The [`Verdict`](crate::Verdict) made from either has the line to print.
+    ///
+    /// # Errors
+    /// The first [`Fault`] of the file.
+    pub fn load(&mut self, file: &[u8]) -> Result<Counts, Fault> {
+        debug_assert!(version_fits(), "the archive is of another version");
+        judged(raw::load(
             file,
             &mut self.plan,
             &mut self.run,
@@ -58,27 +64,31 @@ impl Spwd {
     /// Takes one event. Only a time-code uses the record buffer. A refusal leaves box, buffer and the five as they were.
     ///
     /// The four methods below take one kind of event each and answer in its own type.
-    pub fn step(&mut self, event: Event, records: &mut [u8]) -> Answer {
-        let (plan, run) = (&self.plan, &mut self.run);
+    ///
+    /// # Errors
+    /// Those of the method for the event.
+    pub fn step(&mut self, event: Event, records: &mut [u8]) -> Result<Answer, Refusal> {
         match event {
             Event::TimeCode { byte, clock } => {
-                let (last, watchdog) = (&mut self.last, &mut self.watchdog);
-                raw::time_code(plan, run, last, watchdog, byte, clock, records)
+                self.time_code(byte, clock, records).map(Answer::Recorded)
             }
             Event::Request {
                 initiator,
                 target,
                 kind,
                 length,
-            } => raw::request(plan, run, initiator, target, kind, length),
+            } => self
+                .request(initiator, target, kind, length)
+                .map(Answer::Joined),
             Event::Reply {
                 initiator,
-                number,
+                transaction,
                 status,
-            } => raw::reply(plan, run, initiator, number, status),
-            Event::Reading { clock } => raw::reading(plan, &mut self.watchdog, clock),
+            } => self
+                .reply(initiator, transaction, status)
+                .map(Answer::Ended),
+            Event::Reading { clock } => self.reading(clock).map(Answer::Told),
         }
-        .into()
     }
 
     /// Takes a time-code and gives how many records it wrote; [`records`](crate::records()) reads them. The buffer beyond them keeps
@@ -89,10 +99,13 @@ impl Spwd {
     #[inline]
     pub fn time_code(&mut self, byte: u8, clock: u32, records: &mut [u8]) -> Result<u8, Refusal> {
         let (run, last, watchdog) = (&mut self.run, &mut self.last, &mut self.watchdog);
-        let [number, count, ..] =
-            raw::time_code(&self.plan, run, last, watchdog, byte, clock, records);
-        taken(number)?;
-        Ok(count as u8)
+        let numbers = raw::time_code(&self.plan, run, last, watchdog, byte, clock, records);
+        let [number, count, ..] = numbers;
+        whole(
+            numbers,
+            taken(number).map(|()| count as u8),
+            Answer::Recorded,
+        )
     }
 
     /// Puts a request into its initiator's line and gives its transaction number. The kind is [`READ`](crate::READ) or
@@ -110,26 +123,30 @@ impl Spwd {
         length: u16,
     ) -> Result<u16, Refusal> {
         let (plan, run) = (&self.plan, &mut self.run);
-        let [number, _, transaction, ..] = raw::request(plan, run, initiator, target, kind, length);
-        taken(number)?;
-        Ok(transaction as u16)
+        let numbers = raw::request(plan, run, initiator, target, kind, length);
+        let [number, _, transaction, ..] = numbers;
+        whole(
+            numbers,
+            taken(number).map(|()| transaction as u16),
+            Answer::Joined,
+        )
     }
 
     /// Ends the live transaction of an initiator.
     ///
     /// # Errors
-    /// [`Refusal::NO_PLAN`], [`Refusal::NO_INITIATOR`], [`Refusal::NOTHING_LIVE`], [`Refusal::OTHER_NUMBER`].
+    /// [`Refusal::NO_PLAN`], [`Refusal::NO_INITIATOR`], [`Refusal::NOTHING_LIVE`], [`Refusal::OTHER_TRANSACTION`].
     #[inline]
-    pub fn reply(&mut self, initiator: u8, number: u16, status: u8) -> Result<Ended, Refusal> {
-        let [number, _, _, target, length, status, class, _] =
-            raw::reply(&self.plan, &mut self.run, initiator, number, status);
-        taken(number)?;
-        Ok(Ended {
+    pub fn reply(&mut self, initiator: u8, transaction: u16, status: u8) -> Result<Ended, Refusal> {
+        let numbers = raw::reply(&self.plan, &mut self.run, initiator, transaction, status);
+        let [number, _, _, target, length, status, status_class, _] = numbers;
+        let ended = Ended {
             target: target as u8,
             length: length as u16,
             status: status as u8,
-            class: class as u8,
-        })
+            status_class: status_class as u8,
+        };
+        whole(numbers, taken(number).map(|()| ended), Answer::Ended)
     }
 
     /// Takes a clock reading and says, once, whether the next time-code is overdue.
@@ -138,9 +155,9 @@ impl Spwd {
     /// [`Refusal::NO_PLAN`].
     #[inline]
     pub fn reading(&mut self, clock: u32) -> Result<bool, Refusal> {
-        let [number, .., late] = raw::reading(&self.plan, &mut self.watchdog, clock);
-        taken(number)?;
-        Ok(late != 0)
+        let numbers = raw::reading(&self.plan, &mut self.watchdog, clock);
+        let [number, .., late] = numbers;
+        whole(numbers, taken(number).map(|()| late != 0), Answer::Told)
     }
 
     /// Writes the plan out as a file, in canonical order, and gives its size, at most [`WRITTEN_MOST`](crate::WRITTEN_MOST).
@@ -153,12 +170,14 @@ impl Spwd {
     }
 
     /// Whether every number of the box and of the five is that of a clear.
+    #[must_use]
     pub fn is_blank(&self) -> bool {
         raw::is_blank(&self.plan, &self.run, &self.last, &self.watchdog)
     }
 
     /// Whether the box holds the plan of this file, in whatever order it gives it. The file is read into `other`, which has its plan
     /// afterwards, or none if a load refuses it.
+    #[must_use]
     pub fn holds(&self, file: &[u8], other: &mut Plan) -> bool {
         raw::holds(file, &self.plan, other)
     }
@@ -177,6 +196,17 @@ impl Spwd {
     pub fn set_watchdog(&mut self, five: Watchdog) {
         self.watchdog = five;
     }
+}
+
+/// The answer as it is. Where debug assertions are on, it must have all of the eight numbers that the archive gave, and these no more.
+#[inline]
+fn whole<T: Copy>(
+    numbers: [u32; 8],
+    answer: Result<T, Refusal>,
+    case: fn(T) -> Answer,
+) -> Result<T, Refusal> {
+    debug_assert_eq!(eight(answer.map(case)), numbers);
+    answer
 }
 
 impl Default for Spwd {

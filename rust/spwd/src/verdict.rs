@@ -4,23 +4,26 @@ use crate::raw;
 use crate::LINE_ROOM;
 use core::fmt;
 
-/// The verdict on a plan file.
+/// How many of each an accepted plan has.
 #[derive(Clone, Copy, Debug, PartialEq, Eq)]
-pub enum Verdict {
-    /// 0: the box is under the plan, which has so many of each.
-    Accepted {
-        /// Devices given.
-        devices: u8,
-        /// Links given.
-        links: u8,
-        /// Paths given.
-        paths: u8,
-        /// Entries given.
-        entries: u16,
-    },
+pub struct Counts {
+    /// Devices given.
+    pub devices: u8,
+    /// Links given.
+    pub links: u8,
+    /// Paths given.
+    pub paths: u8,
+    /// Entries given.
+    pub entries: u16,
+}
+
+/// Why a plan file was refused.
+#[must_use]
+#[derive(Clone, Copy, Debug, PartialEq, Eq)]
+pub enum Fault {
     /// 1 to 12: the first fault of the file.
-    Faulty {
-        /// Which.
+    File {
+        /// Which: [`Verdict::FILE_TOO_LONG`] to [`Verdict::NO_INTERVALS`].
         number: u8,
         /// 1: zero; 2 to 11: offset of the tag of the field at fault; 12: file length.
         place: u16,
@@ -45,78 +48,114 @@ pub enum Verdict {
     },
 }
 
+impl Fault {
+    /// Document 01's number, 1 to 14.
+    pub const fn number(&self) -> u8 {
+        match self {
+            Self::File { number, .. } => *number,
+            Self::Overrun { .. } => Verdict::OVERRUN,
+            Self::Clash { .. } => Verdict::CLASH,
+        }
+    }
+}
+
+impl fmt::Display for Fault {
+    /// The printed line of the verdict, without its newline.
+    fn fmt(&self, formatter: &mut fmt::Formatter<'_>) -> fmt::Result {
+        Verdict::Refused(*self).fmt(formatter)
+    }
+}
+
+impl core::error::Error for Fault {}
+
+/// The verdict on a plan file, as it is printed. What a load answers becomes one by [`Verdict::from`].
+#[must_use]
+#[derive(Clone, Copy, Debug, PartialEq, Eq)]
+pub enum Verdict {
+    /// 0: the box is under the plan.
+    Accepted(Counts),
+    /// 1 to 14: there is no plan in the box.
+    Refused(Fault),
+}
+
 impl Verdict {
+    /// The number of an accepted plan.
+    pub const ACCEPTED: u8 = 0;
+    /// The file is over [`FILE_MOST`](crate::FILE_MOST).
+    pub const FILE_TOO_LONG: u8 = 1;
+    /// The file ends within a field.
+    pub const CUT_OFF: u8 = 2;
+    /// A tag that there is not.
+    pub const UNKNOWN_TAG: u8 = 3;
+    /// A tag below the one before, or a second 05.
+    pub const TAG_ORDER: u8 = 4;
+    /// A length that the tag does not allow.
+    pub const FIELD_LENGTH: u8 = 5;
+    /// A number out of range, or a link or path from a device to itself.
+    pub const OUT_OF_RANGE: u8 = 6;
+    /// Given before.
+    pub const GIVEN_BEFORE: u8 = 7;
+    /// A device or link that was not given before, or a router as initiator or target.
+    pub const NOT_GIVEN: u8 = 8;
+    /// A ninth initiator, or the 129th path.
+    pub const TOO_MANY: u8 = 9;
+    /// The links of a path are no walk.
+    pub const NO_WALK: u8 = 10;
+    /// An entry's target has no path from its initiator.
+    pub const NO_PATH: u8 = 11;
+    /// There are no intervals.
+    pub const NO_INTERVALS: u8 = 12;
+    /// The number of [`Fault::Overrun`].
+    pub const OVERRUN: u8 = 13;
+    /// The number of [`Fault::Clash`].
+    pub const CLASH: u8 = 14;
+
     /// Document 01's number, 0 to 14.
     pub const fn number(&self) -> u8 {
         match self {
-            Self::Accepted { .. } => 0,
-            Self::Faulty { number, .. } => *number,
-            Self::Overrun { .. } => 13,
-            Self::Clash { .. } => 14,
+            Self::Accepted(_) => Self::ACCEPTED,
+            Self::Refused(fault) => fault.number(),
         }
     }
 
     /// Whether the box is under the plan.
+    #[must_use]
     pub const fn is_accepted(&self) -> bool {
-        matches!(self, Self::Accepted { .. })
+        matches!(self, Self::Accepted(_))
     }
 
     /// The number, then counts or place, all else 0.
     pub fn numbers(&self) -> [u32; 5] {
         let number = self.number().into();
         match *self {
-            Self::Accepted {
+            Self::Accepted(Counts {
                 devices,
                 links,
                 paths,
                 entries,
-            } => [
+            }) => [
                 number,
                 devices.into(),
                 links.into(),
                 paths.into(),
                 entries.into(),
             ],
-            Self::Faulty { place, .. } => [number, place.into(), 0, 0, 0],
-            Self::Overrun { initiator, slot } => [number, initiator.into(), slot.into(), 0, 0],
-            Self::Clash {
+            Self::Refused(Fault::File { place, .. }) => [number, place.into(), 0, 0, 0],
+            Self::Refused(Fault::Overrun { initiator, slot }) => {
+                [number, initiator.into(), slot.into(), 0, 0]
+            }
+            Self::Refused(Fault::Clash {
                 slot,
                 smaller,
                 greater,
                 link,
-            } => [
+            }) => [
                 number,
                 slot.into(),
                 smaller.into(),
                 greater.into(),
                 link.into(),
             ],
-        }
-    }
-
-    /// The verdict of these numbers, each cut to its width; those of a verdict have no more.
-    pub(crate) const fn from_numbers([number, a, b, c, d]: [u32; 5]) -> Self {
-        match number {
-            0 => Self::Accepted {
-                devices: a as u8,
-                links: b as u8,
-                paths: c as u8,
-                entries: d as u16,
-            },
-            13 => Self::Overrun {
-                initiator: a as u8,
-                slot: b as u8,
-            },
-            14 => Self::Clash {
-                slot: a as u8,
-                smaller: b as u8,
-                greater: c as u8,
-                link: d as u8,
-            },
-            _ => Self::Faulty {
-                number: number as u8,
-                place: a as u16,
-            },
         }
     }
 
@@ -133,11 +172,48 @@ impl Verdict {
     }
 }
 
+impl From<Result<Counts, Fault>> for Verdict {
+    /// The verdict that a load answered.
+    fn from(answer: Result<Counts, Fault>) -> Self {
+        answer.map_or_else(Self::Refused, Self::Accepted)
+    }
+}
+
 impl fmt::Display for Verdict {
     /// The printed line without its newline.
     fn fmt(&self, formatter: &mut fmt::Formatter<'_>) -> fmt::Result {
         formatter.pad(self.line().as_str().trim_end())
     }
+}
+
+/// What these numbers of a verdict say, each cut to its width; those of a verdict have no more.
+pub(crate) fn judged(numbers: [u32; 5]) -> Result<Counts, Fault> {
+    let [number, a, b, c, d] = numbers;
+    let number = number as u8;
+    let answer = match number {
+        Verdict::ACCEPTED => Ok(Counts {
+            devices: a as u8,
+            links: b as u8,
+            paths: c as u8,
+            entries: d as u16,
+        }),
+        Verdict::OVERRUN => Err(Fault::Overrun {
+            initiator: a as u8,
+            slot: b as u8,
+        }),
+        Verdict::CLASH => Err(Fault::Clash {
+            slot: a as u8,
+            smaller: b as u8,
+            greater: c as u8,
+            link: d as u8,
+        }),
+        _ => Err(Fault::File {
+            number,
+            place: a as u16,
+        }),
+    };
+    debug_assert_eq!(Verdict::from(answer).numbers(), numbers);
+    answer
 }
 
 /// A printed verdict, newline included.

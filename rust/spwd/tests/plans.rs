@@ -50,7 +50,7 @@ fn the_lamp_reads_the_five_too() {
 fn a_refused_load_leaves_a_clear() {
     for file in [&[][..], &[6, 0, 0], &first()[..114], &[0; 20_000]] {
         let mut spwd = busy();
-        assert!(!spwd.load(file).is_accepted());
+        assert!(spwd.load(file).is_err());
         assert_eq!(spwd, Spwd::new());
     }
 }
@@ -58,9 +58,9 @@ fn a_refused_load_leaves_a_clear() {
 #[test]
 fn an_accepted_load_replaces_everything() {
     let mut spwd = busy();
-    assert!(spwd.load(&INTERVALS).is_accepted());
+    assert!(spwd.load(&INTERVALS).is_ok());
     assert_eq!(spwd, under(&INTERVALS));
-    assert!(spwd.load(&first()).is_accepted());
+    assert!(spwd.load(&first()).is_ok());
     assert_eq!(spwd, under(&first()));
     assert_eq!(spwd.request(1, 3, READ, 0), Ok(0));
 }

@@ -10,7 +10,7 @@ const STARTED: Record = Record {
     initiator: 1,
     target: 3,
     value: 63,
-    number: 0x0102,
+    transaction: 0x0102,
     length: 0x0304,
 };
 
@@ -49,7 +49,14 @@ fn the_records_of_one_time_code_in_order() {
     assert_eq!(spwd.time_code(0, 0, &mut buffer), Ok(2));
     assert_eq!(spwd.time_code(1, 0, &mut buffer), Ok(5));
     let kinds: Vec<_> = records(&buffer, 5)
-        .map(|record| (record.kind, record.initiator, record.number, record.value))
+        .map(|record| {
+            (
+                record.kind,
+                record.initiator,
+                record.transaction,
+                record.value,
+            )
+        })
         .collect();
     let expected = [
         (Record::EARLY, 0, 0, 1),

@@ -3,7 +3,8 @@
 mod common;
 
 use common::{first, under};
-use spwd::{Ended, Event, Refusal, Spwd, Watchdog, READ, RECORDS_ROOM, WRITE};
+use spwd::{Ended, Event, Refusal, Spwd, Watchdog};
+use spwd::{ERROR, LENGTH_MOST, READ, RECORDS_ROOM, WAITING_MOST, WRITE};
 
 fn request(initiator: u8, target: u8, kind: u8, length: u16) -> Event {
     Event::Request {
@@ -14,10 +15,10 @@ fn request(initiator: u8, target: u8, kind: u8, length: u16) -> Event {
     }
 }
 
-fn reply(initiator: u8, number: u16) -> Event {
+fn reply(initiator: u8, transaction: u16) -> Event {
     Event::Reply {
         initiator,
-        number,
+        transaction,
         status: 0,
     }
 }
@@ -31,10 +32,7 @@ const TIME_CODE: Event = Event::TimeCode {
 fn refuses(spwd: &mut Spwd, event: Event, room: usize, refusal: Refusal) {
     let before = spwd.clone();
     let mut buffer = vec![0xa5; room];
-    let answer = spwd.step(event, &mut buffer);
-    assert_eq!(answer.taken(), Err(refusal));
-    let number = refusal.number().into();
-    assert_eq!(answer, [number, 0, 0, 0, 0, 0, 0, 0].into());
+    assert_eq!(spwd.step(event, &mut buffer), Err(refusal));
     assert_eq!(*spwd, before);
     assert_eq!(buffer, vec![0xa5; room]);
 }
@@ -81,11 +79,11 @@ fn requests() {
     let mut spwd = under(&first());
     refuses(&mut spwd, request(3, 1, 2, 5_000), 0, Refusal::NO_INITIATOR);
     refuses(&mut spwd, request(1, 9, 2, 5_000), 0, Refusal::UNKNOWN_KIND);
-    let long = request(1, 9, WRITE, 4_097);
+    let long = request(1, 9, WRITE, LENGTH_MOST + 1);
     refuses(&mut spwd, long, 0, Refusal::LENGTH_OVER_MOST);
     refuses(&mut spwd, request(1, 4, READ, 0), 0, Refusal::NOT_PERMITTED);
-    for number in 0..8 {
-        assert_eq!(spwd.request(1, 3, READ, 0), Ok(number));
+    for transaction in 0..WAITING_MOST as u16 {
+        assert_eq!(spwd.request(1, 3, READ, 0), Ok(transaction));
     }
     refuses(&mut spwd, request(1, 3, READ, 0), 0, Refusal::LINE_FULL);
     assert_eq!(spwd.request(2, 4, WRITE, 256), Ok(0));
@@ -99,12 +97,12 @@ fn replies() {
     assert_eq!(spwd.request(1, 3, READ, 77), Ok(0));
     refuses(&mut spwd, reply(1, 0), 0, Refusal::NOTHING_LIVE);
     assert_eq!(spwd.time_code(0, 0, &mut [0; RECORDS_ROOM]), Ok(1));
-    refuses(&mut spwd, reply(1, 1), 0, Refusal::OTHER_NUMBER);
+    refuses(&mut spwd, reply(1, 1), 0, Refusal::OTHER_TRANSACTION);
     let ended = Ended {
         target: 3,
         length: 77,
         status: 9,
-        class: 1,
+        status_class: ERROR,
     };
     assert_eq!(spwd.reply(1, 0, 9), Ok(ended));
     refuses(&mut spwd, reply(1, 0), 0, Refusal::NOTHING_LIVE);
@@ -152,7 +150,7 @@ fn refusals_as_text() {
         Refusal::NOT_PERMITTED,
         Refusal::LINE_FULL,
         Refusal::NOTHING_LIVE,
-        Refusal::OTHER_NUMBER,
+        Refusal::OTHER_TRANSACTION,
         Refusal::SMALL_BUFFER,
         Refusal::SMALL_ROOM,
     ]

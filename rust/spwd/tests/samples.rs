@@ -3,11 +3,11 @@
 mod common;
 
 use common::{first, plan_a, under, INTERVALS};
-use spwd::{Refusal, Spwd, Verdict, READ, RECORDS_ROOM};
+use spwd::{Counts, Fault, Refusal, Spwd, Verdict, LENGTH_MOST, READ, RECORDS_ROOM};
 
 #[track_caller]
 fn prints(file: &[u8], line: &str) {
-    let verdict = Spwd::new().load(file);
+    let verdict = Verdict::from(Spwd::new().load(file));
     assert_eq!(verdict.line().as_str(), format!("{line}\n"));
     assert_eq!(verdict.line().as_bytes(), format!("{line}\n").as_bytes());
     assert_eq!(verdict.to_string(), line);
@@ -44,15 +44,15 @@ fn verdicts_of_small_files() {
 #[test]
 fn verdicts_as_types() {
     let mut spwd = Spwd::new();
-    let accepted = Verdict::Accepted {
+    let counts = Counts {
         devices: 6,
         links: 5,
         paths: 4,
         entries: 2,
     };
-    assert_eq!(spwd.load(&first()), accepted);
-    assert_eq!(accepted.numbers(), [0, 6, 5, 4, 2]);
-    let clash = Verdict::Clash {
+    assert_eq!(spwd.load(&first()), Ok(counts));
+    assert_eq!(Verdict::Accepted(counts).numbers(), [0, 6, 5, 4, 2]);
+    let clash = Fault::Clash {
         slot: 0,
         smaller: 1,
         greater: 2,
@@ -60,34 +60,37 @@ fn verdicts_as_types() {
     };
     assert_eq!(
         spwd.load(&plan_a(&[&[1, 0, 1, 3, 4], &[2, 0, 1, 4]])),
-        clash
+        Err(clash)
     );
-    assert_eq!(clash.numbers(), [14, 0, 1, 2, 3]);
-    let overrun = Verdict::Overrun {
+    assert_eq!(Verdict::Refused(clash).numbers(), [14, 0, 1, 2, 3]);
+    let overrun = Fault::Overrun {
         initiator: 1,
         slot: 63,
     };
     assert_eq!(
         spwd.load(&plan_a(&[&[1, 63, 2, 3], &[1, 0, 1, 3]])),
-        overrun
+        Err(overrun)
     );
-    assert_eq!(overrun.numbers(), [13, 1, 63, 0, 0]);
-    let twice = Verdict::Faulty {
-        number: 4,
+    assert_eq!(Verdict::Refused(overrun).numbers(), [13, 1, 63, 0, 0]);
+    let twice = Fault::File {
+        number: Verdict::TAG_ORDER,
         place: 11,
     };
-    assert_eq!(spwd.load(&INTERVALS.repeat(2)), twice);
-    assert_eq!(twice.numbers(), [4, 11, 0, 0, 0]);
+    assert_eq!(spwd.load(&INTERVALS.repeat(2)), Err(twice));
+    assert_eq!(Verdict::Refused(twice).numbers(), [4, 11, 0, 0, 0]);
     assert_eq!(
-        [accepted, twice, overrun, clash].map(|verdict| verdict.number()),
-        [0, 4, 13, 14]
+        [twice, overrun, clash].map(|fault| fault.number()),
+        [4, 13, 14]
     );
+    assert_eq!(clash.to_string(), "REFUSED 14 0 1 2 3");
+    assert!(Verdict::from(Ok(counts)).is_accepted());
+    assert!(!Verdict::from(Err(clash)).is_accepted());
 }
 
 #[test]
 fn the_line_leaves_the_buffer_beyond_it() {
     let mut line = [0xa5; 40];
-    let verdict = Spwd::new().load(&first());
+    let verdict = Verdict::from(Spwd::new().load(&first()));
     let size = verdict.print(&mut line);
     assert_eq!(&line[..size], b"ACCEPTED 6 5 4 2\n");
     assert!(line[size..].iter().all(|&byte| byte == 0xa5));
@@ -99,7 +102,7 @@ fn lengths_of_requests() {
     assert_eq!(spwd.request(1, 3, READ, 256), Ok(0));
     assert_eq!(spwd.request(1, 3, READ, 257), Err(Refusal::NOT_PERMITTED));
     assert_eq!(
-        spwd.request(1, 3, READ, 4_097),
+        spwd.request(1, 3, READ, LENGTH_MOST + 1),
         Err(Refusal::LENGTH_OVER_MOST)
     );
 }

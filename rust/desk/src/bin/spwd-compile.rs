@@ -92,14 +92,18 @@ fn compile(input: &Input, form: fn(&[u8]) -> Vec<u8>) -> Result<Status, String> 
 
 /// The verdict in a line if the plan is accepted, else in words with what it is about.
 fn verdict_on(source: &Source, verdict: &Verdict) -> Vec<String> {
-    if verdict.is_accepted() {
-        let counts = place(verdict).unwrap_or_default();
-        return vec![format!("{}: {verdict}: {counts}", source.name)];
+    match verdict {
+        Verdict::Accepted(_) => {
+            let counts = place(verdict).unwrap_or_default();
+            vec![format!("{}: {verdict}: {counts}", source.name)]
+        }
+        Verdict::Refused(fault) => {
+            let mut lines = in_words(verdict);
+            lines[0] = format!("{}: {}", source.name, lines[0]);
+            lines.extend(behind(source, fault));
+            lines
+        }
     }
-    let mut lines = in_words(verdict);
-    lines[0] = format!("{}: {}", source.name, lines[0]);
-    lines.extend(behind(source, verdict));
-    lines
 }
 
 fn back(input: &Input) -> Result<Status, String> {

@@ -50,6 +50,6 @@ pub const INTERVALS: [u8; 11] = [5, 0, 8, 0, 0, 0, 90, 0, 0, 0, 110];
 /// A box under this plan.
 pub fn under(file: &[u8]) -> Spwd {
     let mut spwd = Spwd::new();
-    assert!(spwd.load(file).is_accepted());
+    spwd.load(file).unwrap();
     spwd
 }
