@@ -8,6 +8,7 @@ use Rattle.box_promises.proofs.Verdicts.{verdicts-of-the-rules, same-pl
 use Rattle.box_promises.proofs.Back.{writes-the-plan-out}
 use Rattle.box_promises.proofs.Says.{words-of-the-box}
 use Rattle.box_promises.proofs.Links.{links-never-shared}
+use Rattle.box_promises.proofs.Between.{not-even-between}
 use Rattle.box_promises.proofs.InTime.{requests-start-in-time}
 use Rattle.box_promises.proofs.Entries.{starts-only-at-entries, once-per-visit}
 use Rattle.box_promises.proofs.Ends.{live-by-record-only, ends-by-reply-or-record, none-still-live}
@@ -24,6 +25,7 @@ promised p b = let ok = p .sound in record {
   written = writes-the-plan-out ok (p .back);
   events = events-of-the-rules ok;
   links = links-never-shared ok (b .links);
+  between = not-even-between ok (b .as-told);
   in-time = requests-start-in-time ok (b .in-time) (b .this-one);
   entries = starts-only-at-entries ok (p .permits) (b .entries);
   once = once-per-visit ok (b .once);

@@ -8,6 +8,7 @@ pub mod Paths
 pub mod Says
 pub mod Links
 pub mod Written
+pub mod Between
 pub mod Lives
 pub mod Moves
 pub mod InTime

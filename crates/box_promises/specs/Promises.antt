@@ -37,7 +37,7 @@ use Rattle.memory_run.specs.Memory.{Finds}
 use Rattle.load_plan.specs.Load.{HoldsPlanOf}
 use Rattle.out_plan.specs.Out.{WritesOut}
 use Rattle.box_calls.specs.Calls.{Memory, At, Lent, withRun, ClearLeaves, LoadLeaves, StepLeaves, Came, Done, Follow}
-use Rattle.box_promises.specs.Words.{blankMemory, RowOf, runWord, waitingIn, requestIn, lineIn, liveIn, liveTargetIn, spanIn, aimsIn, pathHas, numberOf, countOf, InSequence, tickOf, timeCodes, AllInSequence, recordAt}
+use Rattle.box_promises.specs.Words.{blankMemory, RowOf, runWord, waitingIn, requestIn, lineIn, liveIn, liveTargetIn, spanIn, aimsIn, pathHas, numberOf, countOf, InSequence, tickOf, timeCodes, AllInSequence, recordAt, targetAfter}
 
 -- "A box's state comes only from a clear, which needs none before it, a load or an event; statements may take that as given and nothing
 -- more": memory that came so holds the box that the definitions reach by the same calls, and meets what every event asks of memory.
@@ -145,6 +145,14 @@ LinksNeverShared =
     (m : Memory) (b : Box) → Came m b → (r r′ : ℕ) → r < 8 → r′ < 8 → r ≢ r′ →
     (t t′ l : ℕ) → liveTargetIn m r ≡ some t → liveTargetIn m r′ ≡ some t′ →
     pathHas m (nth (m .rows) r) t l ≡ true → pathHas m (nth (m .rows) r′) t′ l ≡ true → ⊥
+
+-- "also between the records of one time-code": nor do those that memory before it and its first j records tell of.
+unfoldable pub NotEvenBetweenRecords : Type 0
+NotEvenBetweenRecords =
+    (before after : Lent) (e : Event) (answer : Answer) (b : Box) → Came (before .memory) b → StepLeaves before e answer after →
+    (j : ℕ) → j ≤ countOf answer → (r r′ i i′ : ℕ) → RowOf (before .memory) r i → RowOf (before .memory) r′ i′ → r ≢ r′ →
+    (t t′ l : ℕ) → targetAfter (before .memory) (after .records) j r ≡ some t → targetAfter (before .memory) (after .records) j r′ ≡ some t′ →
+    pathHas (before .memory) i t l ≡ true → pathHas (before .memory) i′ t′ l ≡ true → ⊥
 
 -- a record of this kind and request, of initiator i, is among those that an event wrote
 pub record Shows (kind : ℕ) (e : Event) (answer : Answer) (records : List ℕ) (i : ℕ) (r : state.Request) : Type 0 where
@@ -264,6 +272,7 @@ pub record Promises : Type 0 where
   pub written : WritesThePlanOut
   pub events : EventsOfTheRules
   pub links : LinksNeverShared
+  pub between : NotEvenBetweenRecords
   pub in-time : RequestsStartInTime
   pub entries : StartsOnlyAtEntries
   pub once : OncePerVisit

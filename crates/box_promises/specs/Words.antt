@@ -4,9 +4,9 @@ use mathlib.Core.Logic.{_⊎_}
 use mathlib.Core.List.{List, [], _∷_, List·Memᴰ}
 use mathlib.Core.Option.{Option, none, some, Option·map}
 use mathlib.Core.Bool.{Bool, true, false, _&&_, cond}
-use Prim.Native.Nat.{ℕ, _+_, _-_, _*_, _/_, _%_, _<_}
+use Prim.Native.Nat.{ℕ, zero, suc, _+_, _-_, _*_, _/_, _%_, _<_}
 use lib.ListN.{take, drop, replicate}
-use lib.Dec.{eqb}
+use lib.Dec.{eqb, leb}
 use Rattle.lists.specs.Search.{isIn}
 use Rattle.lists.specs.Numbers.{anyBelow}
 use Rattle.rules_plan.specs.Plan.{nth}
@@ -125,3 +125,11 @@ AllInSequence ds =
 -- the eight bytes of record number j of a buffer
 unfoldable pub recordAt : List ℕ → ℕ → List ℕ
 recordAt buffer j = take 8 (drop (8 * j) buffer)
+
+-- the target of what is live in row r once the first j records of a buffer are written, as memory before them and they tell: one of kind 4
+-- ends it, one of kind 5 starts another
+unfoldable pub targetAfter : Memory → List ℕ → ℕ → ℕ → Option ℕ
+targetAfter m buffer zero r = liveTargetIn m r
+targetAfter m buffer (suc j) r =
+    let bytes = recordAt buffer j in
+    cond (eqb (nth (m .rows) r) (nth bytes 1) && leb 4 (nth bytes 0)) (cond (eqb (nth bytes 0) 4) none (some (nth bytes 2))) (targetAfter m buffer j r)

@@ -8,6 +8,7 @@ use Rattle.rules_box.proofs.InTime.{requests-start-in-time}
 use Rattle.rules_box.proofs.Order.{records-in-order, once-per-visit}
 use Rattle.rules_box.proofs.Visits.{starts-only-at-entries}
 use Rattle.rules_box.proofs.Lives.{live-by-record-only, ends-by-reply-or-record, none-still-live}
+use Rattle.rules_box.proofs.Between.{not-even-as-told}
 use Rattle.rules_box.proofs.Late.{stepped-back-reads-late}
 
 pub promised : AcceptedIsSound → Promises
@@ -17,6 +18,7 @@ promised ok = record {
   clear = clear-is-never-loaded;
   links = links-never-shared ok;
   between = not-even-between ok;
+  as-told = not-even-as-told ok;
   in-time = requests-start-in-time ok;
   this-one = this-very-request ok;
   joins = joins-as-asked;

@@ -4,6 +4,7 @@ pub mod Visits
 pub mod Places
 pub mod InTime
 pub mod Lives
+pub mod Between
 pub mod Late
 pub mod Refusals
 pub mod All

@@ -1,6 +1,7 @@
 -- No two live transactions share a link: each is at work in the present slot, where a sound plan has no clash. Nor between the records
 -- of one time-code.
 use mathlib.Core.Path.{_≡_, refl, sym, ap, _∙_}
+use mathlib.Core.Logic.{_≢_}
 use mathlib.Core.Option.{Option, some}
 use mathlib.Core.Bool.{true}
 use Prim.Native.Nat.{ℕ, _+_, _%_}
@@ -26,13 +27,14 @@ module _ (p : Plan) (ok : Sound p) where
       let same : valueOf byte ≡ (k .entry .slot + x .age) % 64 = ap valueOf (some-some (sym seen ∙ k .seen)) ∙ k .now in
       rw (same, ← (k .own)) (may-use p ok (k .entry) (k .has) (x .request .target) l (x .age) (k .aims) (rw (k .own) u) (k .young))
 
+  pub two-apart : (last : Option ℕ) (i j l : ℕ) (x y : Live) → i ≢ j → AtWork p last i x → AtWork p last j y → runs p i x l ≡ true → runs p j y l ≡ true → ⊥
+  unfolding valueOf
+  two-apart last i j l x y ij k m ux uy =
+      ok .no-clash (valueOf (k .byte)) i j l (omega arith) ij (may-use-now last (k .byte) i l x (k .seen) k ux) (may-use-now last (k .byte) j l y (k .seen) m uy)
+
   at-work-apart : (last : Option ℕ) (side : ℕ → Side) → AllAtWork p last side → Apart p side
-  unfolding Apart valueOf
-  at-work-apart last side all i j x y l ij hx hy ux uy =
-      let k = all i x hx in
-      ok .no-clash (valueOf (k .byte)) i j l (omega arith) ij
-      (may-use-now last (k .byte) i l x (k .seen) k ux)
-      (may-use-now last (k .byte) j l y (k .seen) (all j y hy) uy)
+  unfolding Apart
+  at-work-apart last side all i j x y l ij hx hy ux uy = two-apart last i j l x y ij (all i x hx) (all j y hy) ux uy
 
 pub links-never-shared : AcceptedIsSound → LinksNeverShared
 unfolding LinksNeverShared

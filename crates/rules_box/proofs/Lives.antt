@@ -86,7 +86,7 @@ live-by-record-only ok b reached room w e i l h =
 
 -- what is live and not late stays so, and nothing starts beside it
 module _ (p : Plan) (q : Bool) (byte i : ℕ) (s : Side) (l : Live) (is : s .live ≡ some l) (young : isLate q l ≡ false) where
-  outlasts : survives q (s .live) ≡ some (older l)
+  pub outlasts : survives q (s .live) ≡ some (older l)
   unfolding survives
   outlasts = rw (is, survives, young)
 
@@ -103,16 +103,14 @@ module _ (p : Plan) (q : Bool) (byte i : ℕ) (s : Side) (l : Live) (is : s .liv
   still-live = ap (λ (x : Side). x .live) (turned-rest p q byte i s none-starts) ∙ outlasts
 
 -- what is late is written down
-late-recorded : (b : Box) (w : Watchdog) (byte clock i : ℕ) (l : Live) → List·Memᴰ i (initiators (thePlan b)) → (b .side i) .live ≡ some l → isLate (inSequence (b .last) byte) l ≡ true
-    → List·Memᴰ (full 4 i (valueOf byte) (l .request)) (records b w byte clock)
-unfolding records lateRecords lateRecord only
+pub late-recorded : (b : Box) (w : Watchdog) (byte clock i : ℕ) (l : Live) → List·Memᴰ i (initiators (thePlan b)) → (b .side i) .live ≡ some l → isLate (inSequence (b .last) byte) l ≡ true
+    → List·Memᴰ (full 4 i (valueOf byte) (l .request)) (front b w byte clock)
+unfolding lateRecords lateRecord only
 late-recorded b w byte clock i l one is late =
     let q = inSequence (b .last) byte in
     let v = valueOf byte in
     let mine : List·Memᴰ (full 4 i v (l .request)) (lateRecord q i v ((b .side i) .live)) = rw (is, lateRecord, late) (List·Memᴰ·head refl) in
-    Memᴰ·append-left (visitsRecords b byte)
-    (Memᴰ·append-right (watchdogRecord w clock v ++ sequenceRecord q v)
-    (flat-intro (λ (j : ℕ). lateRecord q j v ((b .side j) .live)) (initiators (thePlan b)) i _ one mine))
+    Memᴰ·append-right (watchdogRecord w clock v ++ sequenceRecord q v) (flat-intro (λ (j : ℕ). lateRecord q j v ((b .side j) .live)) (initiators (thePlan b)) i _ one mine)
 
 -- the number that an accepted reply brings is the live one's
 live-number : (m : ℕ) (l : Live) (o : Option Live) → o ≡ some l → isLiveNumber m o ≡ true → m ≡ l .request .number
@@ -128,16 +126,16 @@ module _ (b : Box) (w : Watchdog) (room i : ℕ) (l : Live) (inv : Inv b) (is : 
   Ends e o = ((o .box .side i) .live ≡ some (lasting b room e l)) ⊎ EndedByReply i l e (o .answer) ⊎ Shown 4 i l (o .records)
 
   -- a live one's initiator is one of the plan
-  initiator : List·Memᴰ i (initiators (thePlan b))
+  pub initiator : List·Memᴰ i (initiators (thePlan b))
   initiator = let k = inv .live i l is in rw (k .own) at (its-initiator (thePlan b) (inv .sound) (k .entry) (k .has))
 
   tick-ends : (byte clock : ℕ) → refusal room b (TimeCode byte clock) ≡ 0 → Ends (TimeCode byte clock) (accepts b w (TimeCode byte clock))
-  unfolding accepts ticked
+  unfolding accepts ticked records
   tick-ends byte clock taken = go (isLate (inSequence (b .last) byte) l) refl
     where
       go : (x : Bool) → isLate (inSequence (b .last) byte) l ≡ x → Ends (TimeCode byte clock) (accepts b w (TimeCode byte clock))
       go false young = inl (still-live (thePlan b) (inSequence (b .last) byte) byte i (b .side i) l is young ∙ ap some (sym (lasts-tick b room byte clock l taken)))
-      go true late = inr (inr (valueOf byte, late-recorded b w byte clock i l initiator is late))
+      go true late = inr (inr (valueOf byte, Memᴰ·append-left (visitsRecords b byte) (late-recorded b w byte clock i l initiator is late)))
 
   reply-ends : (j m status : ℕ) → refusal room b (Reply j m status) ≡ 0 → Ends (Reply j m status) (accepts b w (Reply j m status))
   unfolding accepts lasting isTick withSide endedBy
@@ -168,7 +166,7 @@ ends-by-reply-or-record ok b reached room w e i l is =
     step-cases room b w e (Ends b w room i l inv is e) (λ taken. accepted-ends b w room i l inv is e taken) (λ d. inl (is ∙ ap some (sym (lasts-refused b room e l d))))
 
 -- at an entry of its initiator it has ended
-no-six : (b : Box) (w : Watchdog) (byte clock : ℕ) → Inv b → (r : Record) → List·Memᴰ r (records b w byte clock) → r .kind ≢ 6
+pub no-six : (b : Box) (w : Watchdog) (byte clock : ℕ) → Inv b → (r : Record) → List·Memᴰ r (records b w byte clock) → r .kind ≢ 6
 unfolding records visitsRecords full stage
 no-six b w byte clock inv r m six = go (List·Memᴰ·append-cases (front b w byte clock) m)
   where

@@ -1,12 +1,12 @@
 -- What is proved of the definitions, each promise a type that reads like the sentence it stands for.
 use mathlib.Core.Path.{_≡_}
 use mathlib.Core.Logic.{_≢_, _⊎_, _↔_}
-use mathlib.Core.List.{List, [], map, flatMap, List·Memᴰ}
-use mathlib.Core.Option.{none, some}
+use mathlib.Core.List.{List, [], _∷_, map, flatMap, List·Memᴰ}
+use mathlib.Core.Option.{Option, none, some, Option·map}
 use mathlib.Core.Bool.{Bool, true, false, _&&_, cond}
 use Prim.Native.Nat.{ℕ, _+_, _-_, _*_, _%_, _^_, _≤_, _<_}
-use lib.ListN.{length}
-use lib.Dec.{eqb, ltb}
+use lib.ListN.{length, take}
+use lib.Dec.{eqb, ltb, leb}
 use Rattle.lists.specs.Search.{keep}
 use Rattle.lists.specs.Place.{atPlace}
 use Rattle.lists.specs.Order.{Rising}
@@ -78,6 +78,24 @@ unfoldable pub NotEvenBetweenRecords : Type 0
 NotEvenBetweenRecords =
     (b : Box) → Reached b → (byte k : ℕ) →
     Apart (thePlan b) (whileLate b byte k) × Apart (thePlan b) (whileStarting b byte k)
+
+-- The same as the records themselves tell it: the target of what is live of initiator i, t before them, once these records are written.
+-- Kind 4 ends it, kind 5 starts another.
+unfoldable pub toldBy : ℕ → Option ℕ → Record → Option ℕ
+toldBy i t r = cond (eqb i (r .initiator) && leb 4 (r .kind)) (cond (eqb (r .kind) 4) none (some (r .target))) t
+
+unfoldable pub toldTarget : ℕ → Option ℕ → List Record → Option ℕ
+toldTarget i t [] = t
+toldTarget i t (r ∷ rs) = toldTarget i (toldBy i t r) rs
+
+unfoldable pub liveTarget : Side → Option ℕ
+liveTarget s = Option·map (λ (l : Live). l .request .target) (s .live)
+
+unfoldable pub NotEvenAsTold : Type 0
+NotEvenAsTold =
+    (b : Box) → Reached b → (w : Watchdog) (byte clock n : ℕ) → let rs = take n (records b w byte clock) in
+    (i j t t′ l : ℕ) → i ≢ j → toldTarget i (liveTarget (b .side i)) rs ≡ some t → toldTarget j (liveTarget (b .side j)) rs ≡ some t′ →
+    uses (thePlan b) i t l ≡ true → uses (thePlan b) j t′ l ≡ true → ⊥
 
 -- Demand 3, waiting. "A request accepted as number p in its line starts within the next 64·p accepted time-codes if all are in
 -- sequence; that holds whatever the other initiators do." It joins at place p - 1.
@@ -190,6 +208,7 @@ pub record Promises : Type 0 where
   pub clear : ClearIsNeverLoaded
   pub links : LinksNeverShared
   pub between : NotEvenBetweenRecords
+  pub as-told : NotEvenAsTold
   pub in-time : RequestsStartInTime
   pub this-one : ThisVeryRequest
   pub joins : JoinsAsAsked
