@@ -69,7 +69,7 @@ pub fn path_fault(
     if ROWS <= row {
         return 9;
     }
-    if 128 <= numbers[PATHS] {
+    if MOST_PATHS as u32 <= numbers[PATHS] {
         return 9;
     }
     if !t.walk {

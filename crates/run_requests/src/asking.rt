@@ -17,6 +17,7 @@ use memory_plan::entry::permits;
 use memory_plan::entry::span_at;
 use memory_plan::entry::targets_at;
 use memory_plan::layout::*;
+use memory_run::layout::*;
 use memory_run::row::waiting;
 use rules_box::Answer;
 use run_line::join_row;
@@ -81,7 +82,7 @@ pub fn ask_row(
     ensures { λ r. ⌜ ((p : Plan) (s : Side) → FitSide s → need ≡ leastSpan p initiator target length → now (row .entry) ≡ rowOf (owner p initiator) s →
         (r ≡ askedAnswer s) × (now (row .exit) ≡ rowOf (owner p initiator) (askedSide target kind length s))) ⌝ }
 {
-    if 8 <= waiting(row) {
+    if PLACES as u64 <= waiting(row) {
         return Answer::Refused { number: 26 };
     }
     let number = join_row(row, initiator, target, kind, need, length);

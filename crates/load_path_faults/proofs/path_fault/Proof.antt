@@ -155,6 +155,9 @@ returns-6 c =
       λ e. absurd (omega arith),
     )
 
+cast-if8 : tie.Need-cast-if8
+cast-if8 c = search needs
+
 element-copy-out-if8 : tie.Need-element-copy-out-if8
 element-copy-out-if8 c = search needs
 
@@ -210,6 +213,7 @@ path-fault-spec =
     within-requires
     returns-5
     returns-6
+    cast-if8
     element-copy-out-if8
     returns-7
     returns-8
