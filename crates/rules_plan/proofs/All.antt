@@ -1,6 +1,7 @@
 -- All that is promised of the definitions.
 use Rattle.rules_plan.specs.Promises.{Promises}
 use Rattle.rules_plan.proofs.Meaning.{covers-as-worded, uses-as-worded, permits-as-worded}
+use Rattle.rules_plan.proofs.Walks.{walks-as-worded}
 use Rattle.rules_plan.proofs.Words.{verdicts-as-worded}
 use Rattle.rules_plan.proofs.Exactly.{accepted-exactly}
 use Rattle.rules_plan.proofs.Back.{same-plans, comes-back, accepted-sound}
@@ -10,6 +11,7 @@ promised = record {
   covers = covers-as-worded;
   uses = uses-as-worded;
   permits = permits-as-worded;
+  walks = walks-as-worded;
   words = verdicts-as-worded;
   exactly = accepted-exactly;
   same = same-plans;

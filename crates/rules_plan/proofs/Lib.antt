@@ -1,3 +1,5 @@
+pub mod Asks
+pub mod Walks
 pub mod Meaning
 pub mod Reading
 pub mod Words

@@ -8,6 +8,7 @@ pub mod Copy
 pub mod Print
 pub mod Computing
 pub mod Good
+pub mod Walk
 pub mod Words
 pub mod Promises
 pub mod laws

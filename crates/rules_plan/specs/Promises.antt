@@ -7,11 +7,12 @@ use Prim.Native.Nat.{ℕ, _+_, _*_, _%_, _≤_, _<_}
 use lib.ListN.{length}
 use Rattle.rules_plan.specs.declared.Verdict.{Verdict}
 use Rattle.rules_plan.specs.Plan.{Route, Entry, Plan}
-use Rattle.rules_plan.specs.Meaning.{covers, uses, permits}
+use Rattle.rules_plan.specs.Meaning.{isWalk, covers, uses, permits}
 use Rattle.rules_plan.specs.Verdict.{number}
 use Rattle.rules_plan.specs.Judge.{judge}
 use Rattle.rules_plan.specs.Canon.{written, given, planOf, SamePlan}
 use Rattle.rules_plan.specs.Good.{Bytes, Good}
+use Rattle.rules_plan.specs.Walk.{Walk, LinksDiffer}
 use Rattle.rules_plan.specs.Words.{Gets}
 use Rattle.rules_plan.specs.laws.Sound.{Sound}
 
@@ -39,6 +40,12 @@ UsesAsWorded = (p : Plan) (i t l : ℕ) → (uses p i t l ≡ true) ↔ OnPath p
 -- "permits the target with 256 × span at least the length"
 unfoldable pub PermitsAsWorded : Type 0
 PermitsAsWorded = (p : Plan) (e : Entry) (t n : ℕ) → (permits p e t n ≡ true) ↔ (List·Memᴰ t (e .targets) × (n ≤ 256 * e .span))
+
+-- "A path is a walk": what is computed of links is the walk in words.
+unfoldable pub WalksAsWorded : Type 0
+WalksAsWorded =
+    (p : Plan) → LinksDiffer p → (start : ℕ) (links : List ℕ) (end : ℕ) →
+    (isWalk p start links end ≡ true) ↔ Walk p start links end
 
 -- The verdict that is computed is the verdict in words, and there is no other.
 unfoldable pub VerdictsAsWorded : Type 0
@@ -72,6 +79,7 @@ pub record Promises : Type 0 where
   pub covers : CoversAsWorded
   pub uses : UsesAsWorded
   pub permits : PermitsAsWorded
+  pub walks : WalksAsWorded
   pub words : VerdictsAsWorded
   pub exactly : AcceptedExactly
   pub same : SamePlans
