@@ -13,7 +13,7 @@ use Rattle.lists.specs.laws.Bools.{neither}
 use Rattle.rules_plan.specs.Plan.{Plan, blank}
 use Rattle.rules_plan.specs.Fields.{tagAt, nextAt}
 use Rattle.rules_plan.specs.Judge.{headRows, fieldRows, fieldFault, withField, Reading, plan, fault, readFrom, readFile}
-use Rattle.rules_plan.specs.Words.{Faultless, Fault, Reaches, start, next}
+use Rattle.rules_plan.specs.Words.{Faultless, Fault, ReadTo, start, next}
 use Rattle.rules_plan.specs.laws.FieldRows.{faultless, has-fault}
 
 -- the field at an offset, after a field with the tag before and the plan p
@@ -39,38 +39,38 @@ module _ (p : Plan) (s : List ℕ) (at before : ℕ) where
       let (e, z) = (has-fault p s at before n) .1 f in
       rw (lt-leb (length s) at h, ne-eqb (fieldFault p s at before) 0 (λ y. z (sym e ∙ y)), readFrom) (ap (λ (m : ℕ). fault m at) e)
 
--- no reached offset lies beyond the file
-reach-within : {s : List ℕ} {at before : ℕ} {p : Plan} → Reaches s at before p → at ≤ length s
-reach-within start = omega arith
-reach-within {s} (next {at} {before} {p} r l f) = ends-within p s at before f
+-- no offset that a file is read to lies beyond it
+read-within : {s : List ℕ} {at before : ℕ} {p : Plan} → ReadTo s at before p → at ≤ length s
+read-within start = omega arith
+read-within {s} (next {at} {before} {p} r l f) = ends-within p s at before f
 
 -- what a reading says: the first faulty field; or all fields, and the plan that they make
 pub record FaultAt (s : List ℕ) (n at : ℕ) : Type 0 where
   pub before : ℕ
   pub plan : Plan
-  pub reached : Reaches s at before plan
+  pub read : ReadTo s at before plan
   pub inside : at < length s
   pub number : Fault plan s at before n
 
 pub record AllFields (s : List ℕ) (p : Plan) : Type 0 where
   pub before : ℕ
-  pub reached : Reaches s (length s) before p
+  pub read : ReadTo s (length s) before p
 
 abbrev pub Says : List ℕ → Reading → Type 0
 Says s (plan p) = AllFields s p
 Says s (fault n at) = FaultAt s n at
 
--- with fuel for the rest of the file, the reading from a reached offset says what is so
-reads-end : (k : ℕ) (s : List ℕ) (at before : ℕ) (p : Plan) → Reaches s at before p → length s ≤ at → Says s (readFrom k s at before p)
+-- with fuel for the rest of the file, the reading from an offset that the file is read to says what is so
+reads-end : (k : ℕ) (s : List ℕ) (at before : ℕ) (p : Plan) → ReadTo s at before p → length s ≤ at → Says s (readFrom k s at before p)
 reads-end k s at before p r h =
-    let e : at ≡ length s = omega (arith, reach-within r) in
-    rw (read-end p s at before k h) (record { before = before; reached = rw e at r })
+    let e : at ≡ length s = omega (arith, read-within r) in
+    rw (read-end p s at before k h) (record { before = before; read = rw e at r })
 
-reads : (k : ℕ) (s : List ℕ) (at before : ℕ) (p : Plan) → Reaches s at before p → length s ≤ at + k → Says s (readFrom k s at before p)
+reads : (k : ℕ) (s : List ℕ) (at before : ℕ) (p : Plan) → ReadTo s at before p → length s ≤ at + k → Says s (readFrom k s at before p)
 reads zero s at before p r h = reads-end zero s at before p r (omega arith)
 reads (suc k) s at before p r h = go (reads k s (nextAt s at) (tagAt s at) (withField p s at)) (decLt at (length s)) (ℕ-discrete (fieldFault p s at before) 0)
   where
-    go : (Reaches s (nextAt s at) (tagAt s at) (withField p s at) → length s ≤ nextAt s at + k → Says s (readFrom k s (nextAt s at) (tagAt s at) (withField p s at)))
+    go : (ReadTo s (nextAt s at) (tagAt s at) (withField p s at) → length s ≤ nextAt s at + k → Says s (readFrom k s (nextAt s at) (tagAt s at) (withField p s at)))
         → Dec (at < length s) → Dec (fieldFault p s at before ≡ 0) → Says s (readFrom (suc k) s at before p)
     go ih (no l) d = reads-end (suc k) s at before p r (omega arith)
     go ih (yes l) (yes e) =
@@ -78,9 +78,9 @@ reads (suc k) s at before p r h = go (reads k s (nextAt s at) (tagAt s at) (with
         rw (read-past p s at before k l f) (ih (next r l f) (omega arith))
     go ih (yes l) (no e) =
         let f = (has-fault p s at before _) .0 (refl, e) in
-        rw (read-fault p s at before k _ l f) (record { before = before; plan = p; reached = r; inside = l; number = f })
+        rw (read-fault p s at before k _ l f) (record { before = before; plan = p; read = r; inside = l; number = f })
 
--- the reading of the whole file is the reading from each offset that it reaches
+-- the reading of the whole file is the reading from each offset that it is read to
 record From (s : List ℕ) (at before : ℕ) (p : Plan) : Type 0 where
   fuel : ℕ
   enough : length s ≤ at + fuel
@@ -94,11 +94,11 @@ fuelled {s} {at} {before} {p} x l = go (x .fuel) (x .enough) (x .same)
     go zero h e = absurd (omega arith)
     go (suc k) h e = (k, h, e)
 
-reaches-from : {s : List ℕ} {at before : ℕ} {p : Plan} → Reaches s at before p → From s at before p
+read-from : {s : List ℕ} {at before : ℕ} {p : Plan} → ReadTo s at before p → From s at before p
 unfolding readFile
-reaches-from {s} start = record { fuel = length s; enough = omega arith; same = refl }
-reaches-from {s} (next {at} {before} {p} r l f) =
-    let (k, h, e) = fuelled (reaches-from r) l in
+read-from {s} start = record { fuel = length s; enough = omega arith; same = refl }
+read-from {s} (next {at} {before} {p} r l f) =
+    let (k, h, e) = fuelled (read-from r) l in
     record { fuel = k; enough = omega arith; same = e ∙ read-past p s at before k l f }
 
 -- The reading of a file is what the words say of it, and there is no other.
@@ -107,7 +107,7 @@ unfolding readFile
 file-says s r = (λ e. rw e at (reads (length s) s 0 0 blank start (omega arith)), back r)
   where
     back : (r : Reading) → Says s r → readFile s ≡ r
-    back (plan p) h = let x = reaches-from (h .reached) in x .same ∙ read-end p s (length s) (h .before) (x .fuel) (omega arith)
+    back (plan p) h = let x = read-from (h .read) in x .same ∙ read-end p s (length s) (h .before) (x .fuel) (omega arith)
     back (fault n at) h =
-        let (k, l, e) = fuelled (reaches-from (h .reached)) (h .inside) in
+        let (k, l, e) = fuelled (read-from (h .read)) (h .inside) in
         e ∙ read-fault (h .plan) s at (h .before) k n (h .inside) (h .number)

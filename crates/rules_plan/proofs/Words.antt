@@ -26,7 +26,7 @@ use Rattle.rules_plan.specs.laws.Verdicts as judged
 -- what the two searches over the entries say of a whole file
 module _ {s : List ℕ} {p : Plan} (w : Whole s p) where
   reads : readFile s ≡ plan p
-  reads = (file-says s (plan p)) .1 (record { before = w .before; reached = w .reached })
+  reads = (file-says s (plan p)) .1 (record { before = w .before; read = w .read })
 
   ranged : Each p outOfRange false
   ranged = (file-fair s p reads) .ranges
@@ -49,7 +49,7 @@ module _ {s : List ℕ} {p : Plan} (w : Whole s p) where
 -- the verdict in words is computed
 computed : {s : List ℕ} {v : Verdict} → Gets s v → judge s ≡ v
 computed {s} (over-long h) = judged.too-long s h
-computed {s} (faulty {at} {before} {n} {p} h r l f) = judged.field-faulty s h n at ((file-says s (fault n at)) .1 (record { before = before; plan = p; reached = r; inside = l; number = f }))
+computed {s} (faulty {at} {before} {n} {p} h r l f) = judged.field-faulty s h n at ((file-says s (fault n at)) .1 (record { before = before; plan = p; read = r; inside = l; number = f }))
 computed {s} (without-timing {p} w e) = judged.without-timing s (w .short) p (reads w) e
 computed {s} (overrunning {p} {i} {v} w t o) = judged.with-overrun s (w .short) p (reads w) t (Overrun i v) ((overrun-as w _) .1 (i, v, refl, o))
 computed {s} (clashing {p} {v} {i} {j} {l} w t n c) = judged.with-clash s (w .short) p (reads w) t (Clash v i j l) ((overrun-not w) .1 n) ((clash-as w _) .1 (v, i, j, l, refl, c))
@@ -78,10 +78,10 @@ gets s = go (ltb 16_384 (length s)) refl (readFile s) refl
     go false e (fault n at) f =
         let h = ltb-false 16_384 (length s) e in
         let x = (file-says s (fault n at)) .0 f in
-        rw (judged.field-faulty s h n at f) (faulty h (x .reached) (x .inside) (x .number))
+        rw (judged.field-faulty s h n at f) (faulty h (x .read) (x .inside) (x .number))
     go false e (plan p) f =
         let x = (file-says s (plan p)) .0 f in
-        whole-gets s p (record { short = ltb-false 16_384 (length s) e; before = x .before; reached = x .reached })
+        whole-gets s p (record { short = ltb-false 16_384 (length s) e; before = x .before; read = x .read })
 
 -- For every file the verdict in words is the one that is computed.
 pub verdicts-as-worded : VerdictsAsWorded

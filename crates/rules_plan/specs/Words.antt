@@ -23,18 +23,18 @@ pub record Fault (p : Plan) (s : List ℕ) (at before n : ℕ) : Type 0 where
   pub holds : testOf n (fieldRows p s at before) ≡ true
   pub least : (m : ℕ) → m < n → testOf m (fieldRows p s at before) ≡ false
 
--- "Fields are judged front to back": offset at is reached, after a field with the tag before and with the plan p, all fields in
--- front of it being faultless
-pub data Reaches (s : List ℕ) : ℕ → ℕ → Plan → Type 0 where
-  start : Reaches s 0 0 blank
-  next : {at before : ℕ} {p : Plan} → Reaches s at before p → at < length s → Faultless p s at before
-      → Reaches s (nextAt s at) (tagAt s at) (withField p s at)
+-- "Fields are judged front to back": the file is read up to offset at, after a field with the tag before and with the plan p, all
+-- fields in front of it being faultless
+pub data ReadTo (s : List ℕ) : ℕ → ℕ → Plan → Type 0 where
+  start : ReadTo s 0 0 blank
+  next : {at before : ℕ} {p : Plan} → ReadTo s at before p → at < length s → Faultless p s at before
+      → ReadTo s (nextAt s at) (tagAt s at) (withField p s at)
 
 -- the whole file is faultless, and gives the plan p
 pub record Whole (s : List ℕ) (p : Plan) : Type 0 where
   pub short : length s ≤ 16_384
   pub before : ℕ
-  pub reached : Reaches s (length s) before p
+  pub read : ReadTo s (length s) before p
 
 -- 13: "an entry covers, after its own slot, the slot of another entry of the same initiator"
 pub record Overrunning (es : List Entry) (i v : ℕ) : Type 0 where
@@ -91,7 +91,7 @@ NoClash p = (v i j l : ℕ) → Clashing p (p .entries) v i j l → ⊥
 -- the verdict that a file gets
 pub data Gets (s : List ℕ) : Verdict → Type 0 where
   over-long : 16_384 < length s → Gets s (Faulty 1 0)
-  faulty : {at before n : ℕ} {p : Plan} → length s ≤ 16_384 → Reaches s at before p → at < length s → Fault p s at before n
+  faulty : {at before n : ℕ} {p : Plan} → length s ≤ 16_384 → ReadTo s at before p → at < length s → Fault p s at before n
       → Gets s (Faulty n at)
   without-timing : {p : Plan} → Whole s p → p .timings ≡ [] → Gets s (Faulty 12 (length s))
   overrunning : {p : Plan} {i v : ℕ} → Whole s p → p .timings ≢ [] → LeastOverrun (p .entries) i v → Gets s (Overrun i v)
