@@ -1,14 +1,17 @@
 -- A test and the sentence that it asks: the test is true exactly when the sentence holds.
-use mathlib.Core.Path.{_≡_, refl, sym}
+use mathlib.Core.Path.{_≡_, refl, sym, subst}
 use mathlib.Core.Logic.{_↔_, _⊎_, inl, inr}
-use mathlib.Core.List.{List, [], _∷_, List·Memᴰ, List·Memᴰ·head, List·Memᴰ·tail}
+use mathlib.Core.List.{List, [], _∷_, List·Memᴰ}
 use mathlib.Core.Bool.{Bool, true, false, not, _&&_, _||_, or-true}
 use Prim.Native.Nat.{ℕ, _≤_, _<_}
+use native.Mathlib.Decide.{ℕ-discrete}
 use lib.Dec.{ltb, leb, eqb}
-use borrow.Author.Tests.{ltb-true, lt-ltb, leb-true, le-leb, eqb-true, eq-eqb}
+use borrow.Author.Tests.{ltb-true, lt-ltb, leb-true, le-leb, eqb-true, eq-eqb, ne-eqb}
 use Rattle.lists.specs.Search.{any, all}
+use Rattle.lists.specs.Rows.{Row, testOf}
 use Rattle.lists.specs.laws.Bools.{both-true, true-both, either, not-both}
-use Rattle.lists.specs.laws.Search.{any-elim, any-intro, all-elim}
+use Rattle.lists.specs.laws.Search.{any-elim, any-intro}
+use Rattle.lists.specs.laws.Append.{Every}
 
 abbrev pub Asks : Bool → Type 0 → Type 0
 Asks t P = (t ≡ true) ↔ P
@@ -60,22 +63,22 @@ module _ {A : Type 0} (t : A → Bool) (P : A → Type 0) (f : (x : A) → Asks 
     λ h. let (x, m, y) = h in any-intro t xs x m ((f x) .1 y),
   )
 
-  -- the one that fails, where not all pass
-  failing : (xs : List A) → not (all t xs) ≡ true → (x : A) × List·Memᴰ x xs × (P x → ⊥)
-  unfolding all
-  failing [] h = not-both h refl
-  failing (x ∷ xs) h = go (failing xs) (t x) refl
-    where
-      go : (not (all t xs) ≡ true → (y : A) × List·Memᴰ y xs × (P y → ⊥)) → (b : Bool) → t x ≡ b → (y : A) × List·Memᴰ y (x ∷ xs) × (P y → ⊥)
-      go ih true e = let (y, m, n) = ih (rw (e, all) at h) in (y, List·Memᴰ·tail m, n)
-      go ih false e = (x, List·Memᴰ·head refl, (false-asks (t x) (f x)) .0 e)
+-- not both tests pass: one fails
+not-and : (a b : Bool) → not (a && b) ≡ not a || not b
+not-and true b = refl
+not-and false b = refl
 
-  pub not-all-asks : (xs : List A) → Asks (not (all t xs)) ((x : A) × List·Memᴰ x xs × (P x → ⊥))
-  not-all-asks xs = (failing xs, λ h. let (x, m, n) = h in back x m n (all t xs) refl)
-    where
-      back : (x : A) → List·Memᴰ x xs → (P x → ⊥) → (b : Bool) → all t xs ≡ b → not (all t xs) ≡ true
-      back x m n true e = absurd (n ((f x) .0 (all-elim t xs x e m)))
-      back x m n false e = rw e
+pub not-and-asks : {P Q : Type 0} (a b : Bool) → Asks (not a) P → Asks (not b) Q → Asks (not (a && b)) (P ⊎ Q)
+not-and-asks a b f g = rw (not-and a b) (or-asks f g)
+
+-- not all elements pass: one fails
+not-all : {A : Type 0} (t : A → Bool) (xs : List A) → not (all t xs) ≡ any (λ (x : A). not (t x)) xs
+unfolding all any
+not-all t [] = refl
+not-all t (x ∷ xs) = rw (not-and (t x) (all t xs), not-all t xs)
+
+pub not-all-asks : {A : Type 0} (t : A → Bool) (P : A → Type 0) → ((x : A) → Asks (not (t x)) (P x)) → (xs : List A) → Asks (not (all t xs)) ((x : A) × List·Memᴰ x xs × P x)
+not-all-asks t P f xs = rw (not-all t xs) (any-asks _ P f xs)
 
 -- some element passes two tests
 pub any-two-asks : {A : Type 0} (t u : A → Bool) (P Q : A → Type 0) → ((x : A) → Asks (t x) (P x)) → ((x : A) → Asks (u x) (Q x)) → (xs : List A)
@@ -84,3 +87,13 @@ any-two-asks {A} t u P Q f g xs = (λ h. let (x, m, y) = both .0 h in (x, m, y .
   where
     both : Asks (any (λ (x : A). t x && u x) xs) ((x : A) × List·Memᴰ x xs × (P x × Q x))
     both = any-asks _ _ (λ x. and-asks (f x) (g x)) xs
+
+-- a row of a table that holds says what its number stands for
+pub row-says : (P : ℕ → Type 0) (rs : List Row) → Every (λ (r : Row). r .1 ≡ true → P (r .0)) rs → (n : ℕ) → testOf n rs ≡ true → P n
+unfolding testOf
+row-says P [] f n h = not-both h refl
+row-says P (r ∷ rs) f n h = go (row-says P rs (f .1) n) (ℕ-discrete (r .0) n)
+  where
+    go : (testOf n rs ≡ true → P n) → Dec (r .0 ≡ n) → P n
+    go ih (yes e) = subst P e (f .0 (rw (eq-eqb (r .0) n e) at h))
+    go ih (no e) = ih (rw (ne-eqb (r .0) n e) at h)

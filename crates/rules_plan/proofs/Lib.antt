@@ -1,5 +1,10 @@
 pub mod Asks
 pub mod Walks
+pub mod Heads
+pub mod Given
+pub mod OutOfRange
+pub mod WrongItems
+pub mod Faults
 pub mod Meaning
 pub mod Reading
 pub mod Words

@@ -68,7 +68,7 @@ module _ (p : Plan) (apart : LinksDiffer p) where
           rw (f, leads, same) ((across-ends (j .link) d e) .1 (j .ends))
 
   -- a walk from device d that comes to none of the devices met so far
-  record From (met : List ℕ) (d : ℕ) (links : List ℕ) (end : ℕ) : Type 0 where
+  record Onward (met : List ℕ) (d : ℕ) (links : List ℕ) (end : ℕ) : Type 0 where
     walk : Walk p d links end
     new : (k : ℕ) → k < length links → List·Memᴰ (nth (walk .met) (suc k)) met → ⊥
 
@@ -77,7 +77,7 @@ module _ (p : Plan) (apart : LinksDiffer p) where
   link-at {links} w k h = let e : k + 1 ≡ suc k = omega arith in subst (λ n. Joins p (nth links k) (nth (w .met) k) (nth (w .met) n)) e (w .leads k h)
 
   -- no link left
-  stays : (met : List ℕ) (d end : ℕ) → d ≡ end → From met d [] end
+  stays : (met : List ℕ) (d end : ℕ) → d ≡ end → Onward met d [] end
   stays met d end e = record {
     walk = record {
       met = d ∷ [];
@@ -93,7 +93,7 @@ module _ (p : Plan) (apart : LinksDiffer p) where
 
   -- one link more in front
   module _ (l d e : ℕ) (links met : List ℕ) (end : ℕ) where
-    longer : List·Memᴰ d met → Joins p l d e → (List·Memᴰ e met → ⊥) → (e ≡ end) ⊎ IsRouter p e → From (e ∷ met) e links end → From met d (l ∷ links) end
+    longer : List·Memᴰ d met → Joins p l d e → (List·Memᴰ e met → ⊥) → (e ≡ end) ⊎ IsRouter p e → Onward (e ∷ met) e links end → Onward met d (l ∷ links) end
     longer m j n r w = record {
       walk = record {
         met = d ∷ ds;
@@ -138,7 +138,7 @@ module _ (p : Plan) (apart : LinksDiffer p) where
         twice (suc i) (suc k) a b s = w .walk .once (record { one = i; other = k; apart = omega arith; within = omega arith; same = s })
 
   -- and one less
-  module _ (l d : ℕ) (links met : List ℕ) (end : ℕ) (w : From met d (l ∷ links) end) where
+  module _ (l d : ℕ) (links met : List ℕ) (end : ℕ) (w : Onward met d (l ∷ links) end) where
     abbrev ds : List ℕ
     ds = w .walk .met
 
@@ -154,7 +154,7 @@ module _ (p : Plan) (apart : LinksDiffer p) where
     joined : Joins p l d second
     joined = rw (w .walk .first) at (link-at (w .walk) 0 (omega arith))
 
-    shorter : From (second ∷ met) second links end
+    shorter : Onward (second ∷ met) second links end
     shorter = record {
       walk = record {
         met = drop 1 ds;
@@ -193,19 +193,19 @@ module _ (p : Plan) (apart : LinksDiffer p) where
   step-asks : (e end : ℕ) (met : List ℕ) → Asks (not (isIn e met) && (eqb e end || isRouter p e)) ((List·Memᴰ e met → ⊥) × ((e ≡ end) ⊎ IsRouter p e))
   step-asks e end met = and-asks (not-asks (isIn e met) (in-asks e met)) (or-asks (eq-asks e end) (router-asks p e))
 
-  there : (links met : List ℕ) (d end : ℕ) → List·Memᴰ d met → walks p met d links end ≡ true → From met d links end
+  there : (links met : List ℕ) (d end : ℕ) → List·Memᴰ d met → walks p met d links end ≡ true → Onward met d links end
   unfolding walks
   there [] met d end m h = stays met d end (eqb-true d end h)
   there (l ∷ links) met d end m h = go (there links) (leads p l d) refl
     where
-      go : ((met : List ℕ) (d end : ℕ) → List·Memᴰ d met → walks p met d links end ≡ true → From met d links end) → (o : Option ℕ) → leads p l d ≡ o → From met d (l ∷ links) end
+      go : ((met : List ℕ) (d end : ℕ) → List·Memᴰ d met → walks p met d links end ≡ true → Onward met d links end) → (o : Option ℕ) → leads p l d ≡ o → Onward met d (l ∷ links) end
       go ih none f = not-both (rw (f, walks) at h) refl
       go ih (some e) f =
           let (a, b) = both-true (not (isIn e met) && (eqb e end || isRouter p e)) (walks p (e ∷ met) e links end) (rw (f, walks) at h) in
           let (n, r) = (step-asks e end met) .0 a in
           longer l d e links met end m ((leads-joins l d e) .0 f) n r (ih (e ∷ met) e end (List·Memᴰ·head refl) b)
 
-  back : (links met : List ℕ) (d end : ℕ) → From met d links end → walks p met d links end ≡ true
+  back : (links met : List ℕ) (d end : ℕ) → Onward met d links end → walks p met d links end ≡ true
   unfolding walks
   back [] met d end w = eq-eqb d end (sym (w .walk .first) ∙ w .walk .last)
   back (l ∷ links) met d end w =

@@ -9,6 +9,7 @@ pub mod Print
 pub mod Computing
 pub mod Good
 pub mod Walk
+pub mod Wrong
 pub mod Words
 pub mod Promises
 pub mod laws

@@ -26,7 +26,7 @@ pub record Twice (xs : List ℕ) : Type 0 where
   pub same : nth xs one ≡ nth xs other
 
 -- "A path is a walk: its first link touches the initiator, each link leads on from the device reached, the last reaches the target,
--- every device between is a router, and no device is met twice."
+-- every device between is a router, and no device is met twice." The devices met are one more than the links.
 pub record Walk (p : Plan) (start : ℕ) (links : List ℕ) (end : ℕ) : Type 0 where
   pub met : List ℕ
   pub one-more : length met ≡ length links + 1

@@ -3,25 +3,25 @@
 use mathlib.Core.Path.{_≡_}
 use mathlib.Core.Logic.{_≢_}
 use mathlib.Core.List.{List, [], List·Memᴰ}
-use mathlib.Core.Bool.{true, false}
+use mathlib.Core.Bool.{true}
 use Prim.Native.Nat.{ℕ, _+_, _*_, _≤_, _<_}
 use lib.ListN.{length}
-use Rattle.lists.specs.Rows.{testOf}
 use Rattle.rules_plan.specs.declared.Verdict.{Verdict}
 use Rattle.rules_plan.specs.declared.Verdict.the-variants.{Faulty, Overrun, Clash}
 use Rattle.rules_plan.specs.Plan.{Entry, Plan, blank}
 use Rattle.rules_plan.specs.Fields.{tagAt, nextAt}
 use Rattle.rules_plan.specs.Meaning.{uses, covers}
-use Rattle.rules_plan.specs.Judge.{fieldRows, withField, counts}
+use Rattle.rules_plan.specs.Judge.{withField, counts}
+use Rattle.rules_plan.specs.Wrong.{Wrong}
 
 -- the field at offset at has no fault
 abbrev pub Faultless : Plan → List ℕ → ℕ → ℕ → Type 0
-Faultless p s at before = (n : ℕ) → testOf n (fieldRows p s at before) ≡ false
+Faultless p s at before = (n : ℕ) → Wrong p s at before n → ⊥
 
 -- its fault is n: "the smaller number wins"
 pub record Fault (p : Plan) (s : List ℕ) (at before n : ℕ) : Type 0 where
-  pub holds : testOf n (fieldRows p s at before) ≡ true
-  pub least : (m : ℕ) → m < n → testOf m (fieldRows p s at before) ≡ false
+  pub holds : Wrong p s at before n
+  pub least : (m : ℕ) → m < n → Wrong p s at before m → ⊥
 
 -- "Fields are judged front to back": the file is read up to offset at, after a field with the tag before and with the plan p, all
 -- fields in front of it being faultless

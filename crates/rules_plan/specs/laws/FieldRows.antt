@@ -3,14 +3,14 @@ use mathlib.Core.Path.{_≡_, refl}
 use mathlib.Core.Logic.{_≢_, _↔_}
 use mathlib.Core.List.{List}
 use mathlib.Core.Option.{Option, none, some}
-use mathlib.Core.Bool.{true}
+use mathlib.Core.Bool.{true, false}
 use Prim.Native.Nat.{ℕ}
+use Rattle.lists.specs.Rows.{testOf}
 use Rattle.lists.specs.laws.Rows.{rise}
-use Rattle.lists.specs.laws.Table.{first-is-row, first-is-none}
+use Rattle.lists.specs.laws.Table.{FirstRow, first-is-row, first-is-none}
 use Rattle.rules_plan.specs.Plan.{Plan, Item}
 use Rattle.rules_plan.specs.Fields.{itemAt}
 use Rattle.rules_plan.specs.Judge.{itemRows, headRows, fieldRows, fieldFault}
-use Rattle.rules_plan.specs.Words.{Faultless, Fault}
 
 rows-rise : (p : Plan) (s : List ℕ) (at before : ℕ) → rise 0 (fieldRows p s at before) ≡ true
 unfolding rise headRows fieldRows itemRows
@@ -22,12 +22,10 @@ rows-rise p s at before = go (itemAt s at) refl
 
 -- the field at an offset, after a field with the tag before and the plan p
 module _ (p : Plan) (s : List ℕ) (at before : ℕ) where
-  pub faultless : (fieldFault p s at before ≡ 0) ↔ Faultless p s at before
+  pub no-rows : (fieldFault p s at before ≡ 0) ↔ ((n : ℕ) → testOf n (fieldRows p s at before) ≡ false)
   unfolding fieldFault
-  faultless = first-is-none (fieldRows p s at before) (rows-rise p s at before)
+  no-rows = first-is-none (fieldRows p s at before) (rows-rise p s at before)
 
-  pub has-fault : (n : ℕ) → ((fieldFault p s at before ≡ n) × (n ≢ 0)) ↔ Fault p s at before n
+  pub first-row : (n : ℕ) → ((fieldFault p s at before ≡ n) × (n ≢ 0)) ↔ FirstRow (fieldRows p s at before) n
   unfolding fieldFault
-  has-fault n =
-      let e = first-is-row (fieldRows p s at before) (rows-rise p s at before) n in
-      (λ h. let f = e .0 h in record { holds = f .holds; least = f .before }, λ f. e .1 (record { holds = f .holds; before = f .least }))
+  first-row = first-is-row (fieldRows p s at before) (rows-rise p s at before)

@@ -14,8 +14,7 @@ use Rattle.rules_plan.specs.Plan.{Plan, Item, grow}
 use Rattle.rules_plan.specs.Fields.{lengthAllowed, tagFor, fieldFor, tagAt, sizeAt, nextAt, itemAt}
 use Rattle.rules_plan.specs.Judge.{itemRows, headRows, fieldRows, fieldFault, withField, plan, fault, readFrom}
 use Rattle.rules_plan.specs.Good.{Bytes}
-use Rattle.rules_plan.specs.Words.{Faultless}
-use Rattle.rules_plan.specs.laws.FieldRows.{faultless}
+use Rattle.rules_plan.specs.laws.FieldRows.{no-rows}
 use Rattle.rules_plan.specs.laws.Tags.{item-of, item-tag}
 use Rattle.rules_plan.specs.laws.Fields.{field-length, tag-back, size-back, item-back, rest-back, room-back, tag-here, size-here, field-here}
 use Rattle.rules_plan.specs.laws.Chain.{passed, Follows, Chain, end, next}
@@ -30,22 +29,22 @@ pub record Holds (p : Plan) (s : List ℕ) (at before : ℕ) : Type 0 where
 
 module _ (p : Plan) (s : List ℕ) (at before : ℕ) where
   module _ (h : fieldFault p s at before ≡ 0) where
-    no-rows : Faultless p s at before
-    no-rows = (faultless p s at before) .0 h
+    fails : (n : ℕ) → testOf n (fieldRows p s at before) ≡ false
+    fails = (no-rows p s at before) .0 h
 
     has-item : (x : Item) × (itemAt s at ≡ some x)
     unfolding headRows fieldRows testOf itemAt
-    has-item = item-of (tagAt s at) _ (not-false _ (no-rows 3))
+    has-item = item-of (tagAt s at) _ (not-false _ (fails 3))
 
     pub holds : Holds p s at before
     unfolding headRows fieldRows itemRows testOf
     holds = go (has-item .0) (has-item .1)
       where
         room : nextAt s at ≤ length s
-        room = ltb-false (length s) (nextAt s at) ((neither (ltb (length s) (at + 3)) (ltb (length s) (nextAt s at)) (no-rows 2)) .1)
+        room = ltb-false (length s) (nextAt s at) ((neither (ltb (length s) (at + 3)) (ltb (length s) (nextAt s at)) (fails 2)) .1)
 
         fits : lengthAllowed (tagAt s at) (sizeAt s at) ≡ true
-        fits = not-false _ (no-rows 5)
+        fits = not-false _ (fails 5)
 
         go : (x : Item) → itemAt s at ≡ some x → Holds p s at before
         go x e = record {
@@ -54,15 +53,15 @@ module _ (p : Plan) (s : List ℕ) (at before : ℕ) where
           room = room;
           fits = fits;
           follows = record {
-            order = rw (tag-here s at x room fits e) (no-rows 4);
+            order = rw (tag-here s at x room fits e) (fails 4);
             size = rw (tag-here s at x room fits e, size-here s at x room fits e) fits;
             passes = record {
-              range = rw e at (no-rows 6);
-              new = rw e at (no-rows 7);
-              known = rw e at (no-rows 8);
-              few = rw e at (no-rows 9);
-              walk = rw e at (no-rows 10);
-              reached = rw e at (no-rows 11);
+              range = rw e at (fails 6);
+              new = rw e at (fails 7);
+              known = rw e at (fails 8);
+              few = rw e at (fails 9);
+              walk = rw e at (fails 10);
+              reached = rw e at (fails 11);
             };
           };
         }

@@ -1,0 +1,118 @@
+-- Rows 2 to 5 against their sentences: the tag and the length of a field.
+use mathlib.Core.Path.{_≡_, refl, sym, _∙_, subst}
+use mathlib.Core.Logic.{_⊎_, inl, inr}
+use mathlib.Core.List.{List·Memᴰ}
+use mathlib.Core.Option.{Option, none, some}
+use mathlib.Core.Bool.{true, not, _&&_}
+use Prim.Native.Nat.{ℕ, zero, suc, _≤_, _<_}
+use native.Mathlib.Omega.{arith}
+use native.Mathlib.Decide.{decLt}
+use lib.Dec.{eqb}
+use borrow.Author.Tests.{eqb-true, eq-eqb, le-leb}
+use Rattle.lists.specs.Search.{find, isSome}
+use Rattle.lists.specs.laws.Bools.{both-true, true-both, not-both}
+use Rattle.lists.specs.laws.Search.{find-some}
+use Rattle.lists.specs.laws.Append.{every-member}
+use Rattle.rules_plan.specs.Fields.{Tag, tags, tagOf, isTag, comesOnce, lengthAllowed}
+use Rattle.rules_plan.specs.Wrong.{Allowed, tag-01, tag-02, tag-03, tag-04, tag-05}
+use Rattle.rules_plan.specs.laws.Lengths.{allowed}
+use Rattle.rules_plan.proofs.Asks.{Asks, not-asks}
+
+-- what the words say of a row of the table of tags
+record InWords (t : Tag) : Type 0 where
+  number : (1 ≤ t .number) × (t .number ≤ 5)
+  once : t .once ≡ true → t .number ≡ 5
+  lengths : (size : ℕ) → t .shortest ≤ size → size ≤ t .longest → Allowed (t .number) size
+
+in-words : (t : Tag) → List·Memᴰ t tags → InWords t
+unfolding tags
+in-words = every-member InWords tags (
+  record { number = (omega arith, omega arith); once = λ h. not-both h refl; lengths = λ size h k. subst (Allowed 1) (omega arith) tag-01 },
+  (
+    record { number = (omega arith, omega arith); once = λ h. not-both h refl; lengths = λ size h k. subst (Allowed 2) (omega arith) tag-02 },
+    (
+      record { number = (omega arith, omega arith); once = λ h. not-both h refl; lengths = λ size h k. tag-03 h k },
+      (
+        record { number = (omega arith, omega arith); once = λ h. not-both h refl; lengths = λ size h k. tag-04 h k },
+        (record { number = (omega arith, omega arith); once = λ h. refl; lengths = λ size h k. subst (Allowed 5) (omega arith) tag-05 }, tt),
+      ),
+    ),
+  ),
+)
+
+row-of : (n : ℕ) (t : Tag) → tagOf n ≡ some t → InWords t × (n ≡ t .number)
+unfolding tagOf
+row-of n t e = let (m, h) = find-some _ tags t e in (in-words t m, eqb-true n (t .number) h)
+
+-- 3: "tag not 01 to 05"
+is-tag : (n : ℕ) → 1 ≤ n → n ≤ 5 → isTag n ≡ true
+unfolding isTag isSome tagOf tags find
+is-tag zero h k = absurd (omega arith)
+is-tag (suc zero) h k = refl
+is-tag (suc (suc zero)) h k = refl
+is-tag (suc (suc (suc zero))) h k = refl
+is-tag (suc (suc (suc (suc zero)))) h k = refl
+is-tag (suc (suc (suc (suc (suc zero))))) h k = refl
+is-tag (suc (suc (suc (suc (suc (suc n)))))) h k = absurd (omega arith)
+
+tag-asks : (n : ℕ) → Asks (isTag n) ((1 ≤ n) × (n ≤ 5))
+unfolding isTag isSome
+tag-asks n = (there (tagOf n) refl, λ h. is-tag n (h .0) (h .1))
+  where
+    there : (o : Option Tag) → tagOf n ≡ o → isTag n ≡ true → (1 ≤ n) × (n ≤ 5)
+    there none e h = not-both (rw (e, isTag) at h) refl
+    there (some t) e h = let (w, g) = row-of n t e in (omega (arith, w .number), omega (arith, w .number))
+
+pub no-tag-asks : (n : ℕ) → Asks (not (isTag n)) ((n < 1) ⊎ (5 < n))
+no-tag-asks n = (λ h. there ((not-asks (isTag n) (tag-asks n)) .0 h) (decLt n 1) (decLt 5 n), λ h. (not-asks (isTag n) (tag-asks n)) .1 (back h))
+  where
+    there : ((1 ≤ n) × (n ≤ 5) → ⊥) → Dec (n < 1) → Dec (5 < n) → (n < 1) ⊎ (5 < n)
+    there f (yes h) d = inl h
+    there f (no h) (yes k) = inr k
+    there f (no h) (no k) = absurd (f (omega arith, omega arith))
+
+    back : (n < 1) ⊎ (5 < n) → (1 ≤ n) × (n ≤ 5) → ⊥
+    back (inl h) k = omega (arith, k .0)
+    back (inr h) k = omega (arith, k .1)
+
+-- 4: "a second 05"
+five-once : comesOnce 5 ≡ true
+unfolding comesOnce tagOf tags find
+five-once = refl
+
+pub second-asks : (n before : ℕ) → Asks (eqb n before && comesOnce n) ((before ≡ 5) × (n ≡ 5))
+unfolding comesOnce
+second-asks n before = (λ h. let (a, b) = both-true (eqb n before) (comesOnce n) h in there (eqb-true n before a) (tagOf n) refl b, λ h. back (h .0) (h .1))
+  where
+    there : n ≡ before → (o : Option Tag) → tagOf n ≡ o → comesOnce n ≡ true → (before ≡ 5) × (n ≡ 5)
+    there a none e h = not-both (rw (e, comesOnce) at h) refl
+    there a (some t) e h =
+        let (w, g) = row-of n t e in
+        let five : n ≡ 5 = g ∙ w .once (rw (e, comesOnce) at h) in
+        (sym a ∙ five, five)
+
+    back : before ≡ 5 → n ≡ 5 → eqb n before && comesOnce n ≡ true
+    back a b = true-both (eq-eqb n before (b ∙ sym a)) (rw b five-once)
+
+-- 5: "length not allowed for the tag"
+is-allowed : {n size : ℕ} → Allowed n size → lengthAllowed n size ≡ true
+unfolding lengthAllowed tagOf tags find
+is-allowed tag-01 = refl
+is-allowed tag-02 = refl
+is-allowed (tag-03 {size} h k) = true-both (le-leb 3 size h) (le-leb size 10 k)
+is-allowed (tag-04 {size} h k) = true-both (le-leb 4 size h) (le-leb size 19 k)
+is-allowed tag-05 = refl
+
+allowed-asks : (n size : ℕ) → Asks (lengthAllowed n size) (Allowed n size)
+unfolding lengthAllowed
+allowed-asks n size = (there (tagOf n) refl, is-allowed)
+  where
+    there : (o : Option Tag) → tagOf n ≡ o → lengthAllowed n size ≡ true → Allowed n size
+    there none e h = not-both (rw (e, lengthAllowed) at h) refl
+    there (some t) e h =
+        let (w, g) = row-of n t e in
+        let (a, b) = allowed n size t e h in
+        rw g (w .lengths size a b)
+
+pub not-allowed-asks : (n size : ℕ) → Asks (not (lengthAllowed n size)) (Allowed n size → ⊥)
+not-allowed-asks n size = not-asks (lengthAllowed n size) (allowed-asks n size)

@@ -1,0 +1,86 @@
+-- Row 6 against its sentences, kind by kind.
+use mathlib.Core.Path.{_≡_, refl}
+use mathlib.Core.Logic.{_⊎_, inl, inr}
+use mathlib.Core.List.{List, [], _∷_, List·Memᴰ, List·Memᴰ·head, List·Memᴰ·tail, List·Memᴰ·not-nil}
+use Prim.Native.Nat.{ℕ, _<_}
+use native.Mathlib.Omega.{arith}
+use lib.Dec.{eqb}
+use borrow.Author.Tests.{eqb-true, eq-eqb}
+use Rattle.lists.specs.Search.{any}
+use Rattle.rules_plan.specs.Plan.{Plan, Item, device, link, path, entry, timing}
+use Rattle.rules_plan.specs.Judge.{over63, outOfRange}
+use Rattle.rules_plan.specs.Wrong.{endsOf, devicesOf, linksOf, WrongItem, device-over, named-device-over, link-over, named-link-over, kind-over, slot-over, span-under, span-over, greatest-under, greatest-over, least-over, to-itself, ends-equal}
+use Rattle.rules_plan.proofs.Asks.{Asks, lt-asks, eq-asks, or-asks, any-asks}
+
+-- what the row asks of an item
+abbrev Over : List ℕ → Type 0
+Over xs = (n : ℕ) × List·Memᴰ n xs × (63 < n)
+
+abbrev pub Outside : Item → Type 0
+Outside (device d) = (63 < d .num) ⊎ (1 < d .kind)
+Outside (link l) = (((63 < l .num) ⊎ (63 < l .one)) ⊎ (63 < l .other)) ⊎ (l .one ≡ l .other)
+Outside (path x) = (((63 < x .start) ⊎ (63 < x .end)) ⊎ Over (x .links)) ⊎ (x .start ≡ x .end)
+Outside (entry e) = ((((63 < e .initiator) ⊎ (63 < e .slot)) ⊎ (e .span < 1)) ⊎ (16 < e .span)) ⊎ Over (e .targets)
+Outside (timing t) = ((t .greatest < 1) ⊎ (2_147_483_647 < t .greatest)) ⊎ (t .greatest < t .least)
+
+over-asks : (n : ℕ) → Asks (over63 n) (63 < n)
+unfolding over63
+over-asks n = lt-asks 63 n
+
+overs-asks : (xs : List ℕ) → Asks (any over63 xs) (Over xs)
+overs-asks xs = any-asks over63 _ over-asks xs
+
+none-asks : (n : ℕ) → Asks (eqb n 0) (n < 1)
+none-asks n = (λ h. omega (arith, eqb-true n 0 h), λ h. eq-eqb n 0 (omega arith))
+
+pub range-asks : (x : Item) → Asks (outOfRange x) (Outside x)
+unfolding outOfRange
+range-asks (device d) = or-asks (over-asks (d .num)) (lt-asks 1 (d .kind))
+range-asks (link l) = or-asks (or-asks (or-asks (over-asks (l .num)) (over-asks (l .one))) (over-asks (l .other))) (eq-asks (l .one) (l .other))
+range-asks (path x) = or-asks (or-asks (or-asks (over-asks (x .start)) (over-asks (x .end))) (overs-asks (x .links))) (eq-asks (x .start) (x .end))
+range-asks (entry e) = or-asks (or-asks (or-asks (or-asks (over-asks (e .initiator)) (over-asks (e .slot))) (none-asks (e .span))) (lt-asks 16 (e .span))) (overs-asks (e .targets))
+range-asks (timing t) = or-asks (or-asks (none-asks (t .greatest)) (lt-asks 2_147_483_647 (t .greatest))) (lt-asks (t .greatest) (t .least))
+
+-- each of it is a sentence of the row
+pub outside-wrong : (p : Plan) (x : Item) → Outside x → WrongItem p x 6
+unfolding devicesOf endsOf linksOf
+outside-wrong p (device d) (inl h) = device-over h
+outside-wrong p (device d) (inr h) = kind-over h
+outside-wrong p (link l) (inl (inl (inl h))) = link-over h
+outside-wrong p (link l) (inl (inl (inr h))) = named-device-over (List·Memᴰ·head refl) h
+outside-wrong p (link l) (inl (inr h)) = named-device-over (List·Memᴰ·tail (List·Memᴰ·head refl)) h
+outside-wrong p (link l) (inr h) = to-itself {l = l} h
+outside-wrong p (path x) (inl (inl (inl h))) = named-device-over (List·Memᴰ·head refl) h
+outside-wrong p (path x) (inl (inl (inr h))) = named-device-over (List·Memᴰ·tail (List·Memᴰ·head refl)) h
+outside-wrong p (path x) (inl (inr (n, m, h))) = named-link-over m h
+outside-wrong p (path x) (inr h) = ends-equal {x = x} h
+outside-wrong p (entry e) (inl (inl (inl (inl h)))) = named-device-over (List·Memᴰ·head refl) h
+outside-wrong p (entry e) (inl (inl (inl (inr h)))) = slot-over h
+outside-wrong p (entry e) (inl (inl (inr h))) = span-under h
+outside-wrong p (entry e) (inl (inr h)) = span-over h
+outside-wrong p (entry e) (inr (n, m, h)) = named-device-over (List·Memᴰ·tail m) h
+outside-wrong p (timing t) (inl (inl h)) = greatest-under h
+outside-wrong p (timing t) (inl (inr h)) = greatest-over h
+outside-wrong p (timing t) (inr h) = least-over h
+
+-- and a device or a link that an item names is asked about
+pub device-outside : (x : Item) (n : ℕ) → List·Memᴰ n (devicesOf x) → 63 < n → Outside x
+unfolding devicesOf endsOf
+device-outside (device d) n m h = absurd (List·Memᴰ·not-nil m)
+device-outside (link l) n (List·Memᴰ·head e) h = inl (inl (inr (rw e at h)))
+device-outside (link l) n (List·Memᴰ·tail (List·Memᴰ·head e)) h = inl (inr (rw e at h))
+device-outside (link l) n (List·Memᴰ·tail (List·Memᴰ·tail m)) h = absurd (List·Memᴰ·not-nil m)
+device-outside (path x) n (List·Memᴰ·head e) h = inl (inl (inl (rw e at h)))
+device-outside (path x) n (List·Memᴰ·tail (List·Memᴰ·head e)) h = inl (inl (inr (rw e at h)))
+device-outside (path x) n (List·Memᴰ·tail (List·Memᴰ·tail m)) h = absurd (List·Memᴰ·not-nil m)
+device-outside (entry e) n (List·Memᴰ·head g) h = inl (inl (inl (inl (rw g at h))))
+device-outside (entry e) n (List·Memᴰ·tail m) h = inr (n, m, h)
+device-outside (timing t) n m h = absurd (List·Memᴰ·not-nil m)
+
+pub link-outside : (x : Item) (n : ℕ) → List·Memᴰ n (linksOf x) → 63 < n → Outside x
+unfolding linksOf
+link-outside (device d) n m h = absurd (List·Memᴰ·not-nil m)
+link-outside (link l) n m h = absurd (List·Memᴰ·not-nil m)
+link-outside (path x) n m h = inl (inr (n, m, h))
+link-outside (entry e) n m h = absurd (List·Memᴰ·not-nil m)
+link-outside (timing t) n m h = absurd (List·Memᴰ·not-nil m)
