@@ -14,7 +14,7 @@ use Rattle.rules_plan.specs.laws.Accepted.{accepted-good}
 use Rattle.memory_plan.specs.Memory.{numbersOf, Holds}
 use Rattle.memory_plan.specs.laws.BlankMemory.{holds-blank, good-not-blank}
 use Rattle.memory_plan.specs.laws.SameMemory.{holds-canonical}
-use Rattle.load_plan.specs.Load.{left, HoldsPlanOf}
+use Rattle.load_plan.specs.Load.{planLeft, HoldsPlanOf}
 use Rattle.lists.specs.laws.Answers.{decides}
 
 abbrev Same : (sets ends rows reach paths spans aims numbers sets′ ends′ rows′ reach′ paths′ spans′ aims′ numbers′ : List ℕ) → Type 0
@@ -25,9 +25,9 @@ Same sets ends rows reach paths spans aims numbers sets′ ends′ rows′ reach
 blank-none : {numbers : List ℕ} → numbers ≡ numbersOf blank → nth numbers 1 ≡ 0
 blank-none e = ap (λ (l : List ℕ). nth l 1) (e ∙ sym (holds-blank .numbers))
 
-module _ (file : List ℕ) {sets′ ends′ rows′ reach′ paths′ spans′ aims′ numbers′ : List ℕ} (m : Holds (left file) sets′ ends′ rows′ reach′ paths′ spans′ aims′ numbers′) where
+module _ (file : List ℕ) {sets′ ends′ rows′ reach′ paths′ spans′ aims′ numbers′ : List ℕ} (m : Holds (planLeft file) sets′ ends′ rows′ reach′ paths′ spans′ aims′ numbers′) where
   has-plan : number (judge file) ≡ 0 → Holds (given file) sets′ ends′ rows′ reach′ paths′ spans′ aims′ numbers′
-  unfolding left
+  unfolding planLeft
   has-plan e = rw (eq-eqb (number (judge file)) 0 e) at m
 
   has-interval : number (judge file) ≡ 0 → nth numbers′ 1 ≢ 0
@@ -37,7 +37,7 @@ module _ (file : List ℕ) {sets′ ends′ rows′ reach′ paths′ spans′ a
   refused z e = has-interval e z
 
   accepted : nth numbers′ 1 ≢ 0 → number (judge file) ≡ 0
-  unfolding left
+  unfolding planLeft
   accepted n = go (eqb (number (judge file)) 0) refl m
     where
       go : (x : Bool) → eqb (number (judge file)) 0 ≡ x → Holds (cond x (given file) blank) sets′ ends′ rows′ reach′ paths′ spans′ aims′ numbers′ → number (judge file) ≡ 0

@@ -3,7 +3,7 @@ ghost use mathlib.Core.Path.{_≡_};
 ghost use mathlib.Core.Logic.{_↔_};
 ghost use mathlib.Core.Bool.{true};
 ghost use Rattle.memory_plan.specs.Memory.{Holds};
-ghost use Rattle.load_plan.specs.Load.{left, HoldsPlanOf};
+ghost use Rattle.load_plan.specs.Load.{planLeft, HoldsPlanOf};
 ghost use Rattle.memory_plan.specs.Lent.{atEntry, atExit};
 use memory_plan::interval::is_loaded;
 use memory_plan::layout::*;
@@ -77,7 +77,7 @@ pub fn holds(
     other_numbers: &mut Numbers,
 ) -> bool
     ensures { λ r. ⌜ (r ≡ true) ↔ atEntry (HoldsPlanOf (now (file .entry))) sets ends rows reach paths spans aims numbers ⌝ }
-    ensures { λ r. ⌜ atExit (Holds (left (now (file .entry)))) «other_sets» «other_ends» «other_rows» «other_reach» «other_paths» «other_spans» «other_aims» «other_numbers» ⌝ }
+    ensures { λ r. ⌜ atExit (Holds (planLeft (now (file .entry)))) «other_sets» «other_ends» «other_rows» «other_reach» «other_paths» «other_spans» «other_aims» «other_numbers» ⌝ }
 {
     load_plan::load::load(
         file,

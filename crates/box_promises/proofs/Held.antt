@@ -14,7 +14,7 @@ use Rattle.rules_plan.specs.Good.{Good}
 use Rattle.rules_plan.specs.Promises.{AcceptedIsSound}
 use Rattle.rules_plan.specs.laws.Accepted.{accepted-good}
 use Rattle.rules_plan.specs.laws.Canonical.{good-canonical, canonical-twice}
-use Rattle.memory_plan.specs.Held.{Held}
+use Rattle.memory_plan.specs.PlanHeld.{PlanHeld}
 use Rattle.memory_plan.specs.Memory.{setsOf, endsOf, rowsOf, reachOf, pathsOf, spansOf, aimsOf, numbersOf}
 use Rattle.memory_plan.specs.laws.BlankMemory.{good-greatest}
 use Rattle.rules_box.specs.declared.Event.{Event}
@@ -76,11 +76,11 @@ pub reached-good : (b : Box) → Reached b → (p : Plan) → b .plan ≡ some p
 reached-good b r p e = let f = reached-file b r p e in rw (f .is) (planOf-good (f .file) (f .accepted))
 
 -- memory that holds a reached box is what writing out asks for
-plan-held : (m : Memory) (b : Box) → Reached b → At m b → Held (b .plan) (m .sets) (m .ends) (m .rows) (m .reach) (m .paths) (m .spans) (m .aims) (m .numbers)
+plan-held : (m : Memory) (b : Box) → Reached b → At m b → PlanHeld (b .plan) (m .sets) (m .ends) (m .rows) (m .reach) (m .paths) (m .spans) (m .aims) (m .numbers)
 unfolding thePlan
 plan-held m b r at = go (b .plan) refl
   where
-    go : (o : Option Plan) → b .plan ≡ o → Held o (m .sets) (m .ends) (m .rows) (m .reach) (m .paths) (m .spans) (m .aims) (m .numbers)
+    go : (o : Option Plan) → b .plan ≡ o → PlanHeld o (m .sets) (m .ends) (m .rows) (m .reach) (m .paths) (m .spans) (m .aims) (m .numbers)
     go none is = rw is at (at .plan)
     go (some p) is = record { good = reached-good b r p is; ordered = file-ordered p (reached-file b r p is); holds = rw is at (at .plan) }
 

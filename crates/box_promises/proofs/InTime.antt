@@ -27,7 +27,7 @@ use Rattle.rules_box.specs.State.{Box, Side, thePlan}
 use Rattle.rules_box.specs.Refuse.{refusal, refusals}
 use Rattle.rules_box.specs.Turn.{inSequence, asked, join}
 use Rattle.rules_box.specs.Step.{step, accepts}
-use Rattle.rules_box.specs.History.{Fed, feed, isTick, isNext, ticks, allNext, leaving, fate, hasStarted}
+use Rattle.rules_box.specs.History.{Offer, offered, isTick, isNext, ticks, allNext, leaving, fate, hasStarted}
 use Rattle.rules_box.specs.Promises as box
 use Rattle.rules_box.specs.laws.Steps.{step-accepted, side-changed}
 use Rattle.rules_box.specs.laws.Fit.{FitRequest}
@@ -43,8 +43,8 @@ use Rattle.box_promises.proofs.Says.{says}
 use Rattle.box_promises.proofs.Moves.{accepted-is, tick-is, at-after, grows, Moved, kept, gone, moved}
 
 -- an answered event as the history has it
-abbrev fedOf : Done → Fed
-fedOf d = record { room = length (d .before .records); lent = d .before .five; event = d .event }
+abbrev offerOf : Done → Offer
+offerOf d = record { room = length (d .before .records); lent = d .before .five; event = d .event }
 
 module _ (ok : AcceptedIsSound) where
   module _ (b : Box) (d : Done) (came : Came (d .before .memory) b) (s : StepLeaves (d .before) (d .event) (d .answer) (d .after)) where
@@ -68,32 +68,32 @@ module _ (ok : AcceptedIsSound) where
         go (Reading clock) is = rw (is, isTick, isNext)
 
   -- the events that follow
-  ticks-are : (m : Memory) (b : Box) (ds : List Done) → Came m b → Follow m ds → ticks b (map fedOf ds) ≡ timeCodes ds
-  unfolding ticks timeCodes feed
+  ticks-are : (m : Memory) (b : Box) (ds : List Done) → Came m b → Follow m ds → ticks b (map offerOf ds) ≡ timeCodes ds
+  unfolding ticks timeCodes offered
   ticks-are m b ds came nothing = refl
   ticks-are m b ds came (then {d} {ds = es} s f) =
-      ap₂ (λ (x : Bool) (n : ℕ). cond x 1 0 + n) (tick-is ok b d came s) (ticks-are (d .after .memory) (feed b (fedOf d)) es (by-event came (d .event) s) f)
+      ap₂ (λ (x : Bool) (n : ℕ). cond x 1 0 + n) (tick-is ok b d came s) (ticks-are (d .after .memory) (offered b (offerOf d)) es (by-event came (d .event) s) f)
 
-  all-next : (m : Memory) (b : Box) (ds : List Done) → Came m b → Follow m ds → AllInSequence ds → allNext b (map fedOf ds) ≡ true
-  unfolding allNext AllInSequence feed
+  all-next : (m : Memory) (b : Box) (ds : List Done) → Came m b → Follow m ds → AllInSequence ds → allNext b (map offerOf ds) ≡ true
+  unfolding allNext AllInSequence offered
   all-next m b ds came nothing q = refl
   all-next m b ds came (then {d} {ds = es} s f) q =
       true-both (next-is b d came s (λ byte clock is h. q d (List·Memᴰ·head refl) byte clock is h))
-      (all-next (d .after .memory) (feed b (fedOf d)) es (by-event came (d .event) s) f (λ x m. q x (List·Memᴰ·tail m)))
+      (all-next (d .after .memory) (offered b (offerOf d)) es (by-event came (d .event) s) f (λ x m. q x (List·Memᴰ·tail m)))
 
   -- where the history has a start, the request leaves its line
   module _ (this-one : box.ThisVeryRequest) (r i word : ℕ) where
     starts-in : (m : Memory) (b : Box) (ds : List Done) (k : ℕ) → Came m b → Follow m ds → atPlace r (initiators (thePlan b)) ≡ some i → atPlace k (lineIn m r) ≡ some word
-        → hasStarted i k b (map fedOf ds) ≡ true → Starts r i word k ds
-    unfolding hasStarted feed leaving
+        → hasStarted i k b (map offerOf ds) ≡ true → Starts r i word k ds
+    unfolding hasStarted offered leaving
     starts-in m b ds k came nothing row at h = not-both h refl
     starts-in m b ds k came (then {d} {ds = es} s f) row at h =
-        go (λ j a g. starts-in (d .after .memory) (feed b (fedOf d)) es j (by-event came (d .event) s) f (at-after ok b d came s r i row) a g) (moved ok b d came s r i row this-one)
+        go (λ j a g. starts-in (d .after .memory) (offered b (offerOf d)) es j (by-event came (d .event) s) f (at-after ok b d came s r i row) a g) (moved ok b d came s r i row this-one)
       where
         n : ℕ
         n = length (d .before .records)
 
-        by : ((j : ℕ) → atPlace j (lineIn (d .after .memory) r) ≡ some word → hasStarted i j (feed b (fedOf d)) (map fedOf es) ≡ true → Starts r i word j es)
+        by : ((j : ℕ) → atPlace j (lineIn (d .after .memory) r) ≡ some word → hasStarted i j (offered b (offerOf d)) (map offerOf es) ≡ true → Starts r i word j es)
             → (other place : ℕ) → Leaves d r i other place → fate b i k n (d .event) ≡ leaving place k → (x : Bool) → eqb place k ≡ x → Starts r i word k (d ∷ es)
         by ih other place l e true x =
             let same = eqb-true place k x in
@@ -104,7 +104,7 @@ module _ (ok : AcceptedIsSound) where
             let on : atPlace (cond (ltb place k) (k - 1) k) (lineIn (d .after .memory) r) ≡ some word = ap (atPlace _) (l .line) ∙ at-without (lineIn (d .before .memory) r) place k word at apart in
             later (moves l apart) (ih (cond (ltb place k) (k - 1) k) on (rw (e, leaving, x, hasStarted) at h))
 
-        go : ((j : ℕ) → atPlace j (lineIn (d .after .memory) r) ≡ some word → hasStarted i j (feed b (fedOf d)) (map fedOf es) ≡ true → Starts r i word j es)
+        go : ((j : ℕ) → atPlace j (lineIn (d .after .memory) r) ≡ some word → hasStarted i j (offered b (offerOf d)) (map offerOf es) ≡ true → Starts r i word j es)
             → Moved ok b d came s r i row → Starts r i word k (d ∷ es)
         go ih (kept more e fates) = later (stays more e) (ih k (ap (atPlace k) e ∙ at-append (lineIn (d .before .memory) r) more k word at) (rw (fates k, hasStarted) at h))
         go ih (gone other place l fates) = by ih other place l (fates k) (eqb place k) refl
@@ -151,6 +151,6 @@ module _ (ok : AcceptedIsSound) where
         asked = request-told (owner p i) r fit ∙ ap (state.request t k n) (sym same);
         within = λ ds follow all enough.
             let ticking = ticks-are (after .memory) joined ds next follow in
-            let started = in-time b (h .reached) size w i t k n taken (map fedOf ds) (all-next (after .memory) joined ds next follow all) (omega arith) in
+            let started = in-time b (h .reached) size w i t k n taken (map offerOf ds) (all-next (after .memory) joined ds next follow all) (omega arith) in
             rw waiting (starts-in this-one row i word (after .memory) joined ds (length line) next follow (at-after ok b d came s row i place) stands started);
       }

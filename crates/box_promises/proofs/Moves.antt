@@ -26,7 +26,7 @@ use Rattle.rules_box.specs.State.{Box, Side, Live, thePlan}
 use Rattle.rules_box.specs.Refuse.{refusal}
 use Rattle.rules_box.specs.Turn.{Start, inSequence, asked, join, finish, aged, allows, startOf, turned}
 use Rattle.rules_box.specs.Step.{Outcome, step, accepts, ticked}
-use Rattle.rules_box.specs.History.{isTick, Fate, starts, waits, leaving, left, fate}
+use Rattle.rules_box.specs.History.{isTick, Fate, starts, waits, leaving, fateBy, fate}
 use Rattle.rules_box.specs.Promises as box
 use Rattle.rules_box.specs.laws.Turns.{Begins, begins, turned-start, turned-rest}
 use Rattle.rules_box.specs.laws.Steps.{step-accepted, step-refused, side-cases, plan-kept}
@@ -129,7 +129,7 @@ module _ (ok : AcceptedIsSound) (b : Box) (d : Done) (came : Came (d .before .me
         unfolding accepts ticked
         side-after = ap (λ (x : Outcome). x .box .side i) (step-accepted room b w (d .event) taken) ∙ rw (is, accepts)
 
-        fate-is : (k : ℕ) → fate b i k room (d .event) ≡ left (startOf (thePlan b) q byte i (b .side i)) k
+        fate-is : (k : ℕ) → fate b i k room (d .event) ≡ fateBy (startOf (thePlan b) q byte i (b .side i)) k
         unfolding fate
         fate-is k = let z : eqb (refusal room b (TimeCode byte clock)) 0 ≡ true = rw is at (eq-eqb (refusal room b (d .event)) 0 taken) in rw (is, fate, z)
 
@@ -144,8 +144,8 @@ module _ (ok : AcceptedIsSound) (b : Box) (d : Done) (came : Came (d .before .me
           found = first-some (allows (thePlan b) (x .entry)) line (x .found) ((begins (thePlan b) q byte i (b .side i) x start) .found)
 
           fate-gone : (k : ℕ) → fate b i k room (d .event) ≡ leaving place k
-          unfolding left
-          fate-gone k = fate-is k ∙ rw (start, left)
+          unfolding fateBy
+          fate-gone k = fate-is k ∙ rw (start, fateBy)
 
           this : box.HasStarted i what o
           unfolding box.ThisVeryRequest leaving
@@ -180,13 +180,13 @@ module _ (ok : AcceptedIsSound) (b : Box) (d : Done) (came : Came (d .before .me
           }
 
         tick-moved : Moved
-        unfolding left aged
+        unfolding fateBy aged
         tick-moved = go (startOf (thePlan b) q byte i (b .side i)) refl
           where
             go : (z : Option Start) → startOf (thePlan b) q byte i (b .side i) ≡ z → Moved
             go none e =
                 kept [] (grows [] (ap (λ (z : Side). z .line) (side-after ∙ turned-rest (thePlan b) q byte i (b .side i) e) ∙ sym (append-nil line)))
-                (λ k. fate-is k ∙ rw (e, left))
+                (λ k. fate-is k ∙ rw (e, fateBy))
             go (some x) e = gone (wordOf n (x .found .what)) (x .found .place) (goes x e) (fate-gone x e)
 
       -- any event

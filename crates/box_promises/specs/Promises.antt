@@ -32,7 +32,7 @@ use Rattle.rules_box.specs.Turn.{inSequence, class}
 use Rattle.rules_box.specs.Records.{recordBytes, recorded, full}
 use Rattle.rules_box.specs.Step.{Outcome, step, clockOf}
 use Rattle.rules_box.specs.History.{Reached}
-use Rattle.memory_plan.specs.Held.{Held}
+use Rattle.memory_plan.specs.PlanHeld.{PlanHeld}
 use Rattle.memory_run.specs.Memory.{Finds}
 use Rattle.load_plan.specs.Load.{HoldsPlanOf}
 use Rattle.out_plan.specs.Out.{WritesOut}
@@ -45,7 +45,7 @@ pub record HeldBy (m : Memory) (b : Box) : Type 0 where
   pub reached : Reached b
   pub at : At m b
   pub finds : Finds b (m .rows) (m .spans) (m .aims) (m .numbers) (m .run) (m .last)
-  pub plan : Held (b .plan) (m .sets) (m .ends) (m .rows) (m .reach) (m .paths) (m .spans) (m .aims) (m .numbers)
+  pub plan : PlanHeld (b .plan) (m .sets) (m .ends) (m .rows) (m .reach) (m .paths) (m .spans) (m .aims) (m .numbers)
 
 unfoldable pub HoldsTheBox : Type 0
 HoldsTheBox = (m : Memory) (b : Box) → Came m b → HeldBy m b

@@ -12,12 +12,12 @@ use Rattle.rules_plan.specs.Canon.{given, planOf}
 use Rattle.memory_plan.specs.Memory.{Holds}
 
 -- in the file's order
-unfoldable pub left : List ℕ → Plan
-left s = cond (eqb (number (judge s)) 0) (given s) blank
+unfoldable pub planLeft : List ℕ → Plan
+planLeft s = cond (eqb (number (judge s)) 0) (given s) blank
 
 -- in canonical order
-unfoldable pub kept : List ℕ → Option Plan
-kept s = cond (eqb (number (judge s)) 0) (some (planOf s)) none
+unfoldable pub planKept : List ℕ → Option Plan
+planKept s = cond (eqb (number (judge s)) 0) (some (planOf s)) none
 
 -- the file is accepted, and memory is that of its plan, every number of it
 abbrev pub HoldsPlanOf : (file sets ends rows reach paths spans aims numbers : List ℕ) → Type 0

@@ -4,7 +4,7 @@ ghost use Rattle.rules_plan.specs.Plan.{blank};
 ghost use Rattle.rules_plan.specs.Verdict.{number};
 ghost use Rattle.rules_plan.specs.Judge.{judge};
 ghost use Rattle.memory_plan.specs.Memory.{Holds};
-ghost use Rattle.load_plan.specs.Load.{left};
+ghost use Rattle.load_plan.specs.Load.{planLeft};
 ghost use Rattle.memory_plan.specs.Lent.{atExit};
 use load_judge::judge::judge_into;
 use memory_plan::layout::*;
@@ -67,7 +67,7 @@ pub fn load(
     aims: &mut Aims,
     numbers: &mut Numbers,
 ) -> Verdict
-    ensures { λ r. ⌜ (r ≡ judge (now (file .entry))) × atExit (Holds (left (now (file .entry)))) sets ends rows reach paths spans aims numbers ⌝ }
+    ensures { λ r. ⌜ (r ≡ judge (now (file .entry))) × atExit (Holds (planLeft (now (file .entry)))) sets ends rows reach paths spans aims numbers ⌝ }
 {
     clear(sets, ends, rows, reach, paths, spans, aims, numbers);
     let verdict = judge_into(file, sets, ends, rows, reach, paths, spans, aims, numbers);

@@ -1,5 +1,5 @@
 pub mod Memory
-pub mod Held
+pub mod PlanHeld
 pub mod Take
 pub mod laws
 pub mod Rows

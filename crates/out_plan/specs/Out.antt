@@ -9,14 +9,14 @@ use Rattle.rules_plan.specs.declared.Copied.{Copied}
 use Rattle.lists.specs.Search.{upFrom, below64}
 use Rattle.rules_plan.specs.Plan.{nth, Plan}
 use Rattle.rules_plan.specs.Copy.{copyAnswer, copied}
-use Rattle.memory_plan.specs.Held.{Held}
+use Rattle.memory_plan.specs.PlanHeld.{PlanHeld}
 use Rattle.out_items.specs.Out.{deviceBytes, linkBytes, timingBytes}
 use Rattle.out_rows.specs.Out.{pathBytes, entryBytes}
 
 -- the contract of `write_out`, of memory that a clear or a load left; it is not lent `reach`, which it need not read
 abbrev pub WritesOut : (sets ends rows paths spans aims numbers out : List ℕ) → Copied → (out′ : List ℕ) → Type 0
 WritesOut sets ends rows paths spans aims numbers out answer out′ =
-    (o : Option Plan) (reach : List ℕ) → Held o sets ends rows reach paths spans aims numbers
+    (o : Option Plan) (reach : List ℕ) → PlanHeld o sets ends rows reach paths spans aims numbers
     → (answer ≡ copyAnswer (length out) o) × (out′ ≡ copied o out)
 
 -- all of its bytes, in order of tag: of as many paths and initiators as are counted

@@ -27,7 +27,7 @@ use Rattle.rules_box.specs.State.{Box, Side, Live, thePlan}
 use Rattle.rules_box.specs.Refuse.{refusal, refusals, mayStart}
 use Rattle.rules_box.specs.Turn.{inSequence, valueOf, older, survives, allows, startOf}
 use Rattle.rules_box.specs.Step.{step, accepts, Outcome, withSide, ticked}
-use Rattle.rules_box.specs.History.{Fed, feed, isTick, isNext, ticks, allNext, Fate, starts, waits, leaving, left, fate, hasStarted}
+use Rattle.rules_box.specs.History.{Offer, offered, isTick, isNext, ticks, allNext, Fate, starts, waits, leaving, fateBy, fate, hasStarted}
 use Rattle.rules_box.specs.Promises.{RequestsStartInTime, JoinsAsAsked}
 use Rattle.rules_plan.specs.Promises.{AcceptedIsSound}
 use Rattle.rules_plan.specs.laws.Runs.{found-at, no-entry-after}
@@ -70,8 +70,8 @@ module _ (p : Plan) (ok : Sound p) (e : Entry) (me : List·Memᴰ e (p .entries)
 
   -- so a request that it allows starts, or comes one place forward
   own-visit : (s : Side) (k : ℕ) (r : state.Request) → ((m : Live) → s .live ≡ some m → AtWork p last (e .initiator) m) → atPlace k (s .line) ≡ some r → allows p e r ≡ true
-      → (P : Fate → Type 0) → P starts → ((j : ℕ) → suc j ≡ k → P (waits j)) → P (left (startOf p (inSequence last byte) byte (e .initiator) s) k)
-  unfolding left leaving
+      → (P : Fate → Type 0) → P starts → ((j : ℕ) → suc j ≡ k → P (waits j)) → P (fateBy (startOf p (inSequence last byte) byte (e .initiator) s) k)
+  unfolding fateBy leaving
   own-visit s k r old at fit P f g = go (first-has (allows p e) (s .line) k r at fit)
     where
       start : (x : Found state.Request) → first (allows p e) (s .line) ≡ some x → startOf p (inSequence last byte) byte (e .initiator) s ≡ some (record { entry = e; found = x })
@@ -81,7 +81,7 @@ module _ (p : Plan) (ok : Sound p) (e : Entry) (me : List·Memᴰ e (p .entries)
       by n l true h = rw (h, leaving) f
       by n l false h = let d = eqb-false n k h in let b : n < k = omega arith in rw (h, leaving, lt-ltb n k b) (g (k - 1) (omega arith))
 
-      go : (x : Found state.Request) × (first (allows p e) (s .line) ≡ some x) × (x .place ≤ k) → P (left (startOf p (inSequence last byte) byte (e .initiator) s) k)
+      go : (x : Found state.Request) × (first (allows p e) (s .line) ≡ some x) × (x .place ≤ k) → P (fateBy (startOf p (inSequence last byte) byte (e .initiator) s) k)
       go (x, is, l) = rw (start x is) (by (x .place) l (eqb (x .place) k) refl)
 
 -- a request waits at place k, and entry e allows it
@@ -99,7 +99,7 @@ Within most rest (waits k) = rest + 64 * k ≤ most
 module _ (e : Entry) (r : state.Request) where
   -- a time-code in sequence uses up one
   tick-within : (b : Box) (byte k : ℕ) → Waiting e r b k → inSequence (b .last) byte ≡ true
-      → Within (dist (b .last) (e .slot) + 64 * k) (dist (some byte) (e .slot) + 1) (left (startOf (thePlan b) (inSequence (b .last) byte) byte (e .initiator) (b .side (e .initiator))) k)
+      → Within (dist (b .last) (e .slot) + 64 * k) (dist (some byte) (e .slot) + 1) (fateBy (startOf (thePlan b) (inSequence (b .last) byte) byte (e .initiator) (b .side (e .initiator))) k)
   unfolding valueOf
   tick-within b byte k z q = go (ℕ-discrete (valueOf byte) (e .slot))
     where
@@ -109,7 +109,7 @@ module _ (e : Entry) (r : state.Request) where
       most : ℕ
       most = dist (b .last) (e .slot) + 64 * k
 
-      go : Dec (valueOf byte ≡ e .slot) → Within most (dist (some byte) (e .slot) + 1) (left (startOf (thePlan b) (inSequence (b .last) byte) byte (e .initiator) (b .side (e .initiator))) k)
+      go : Dec (valueOf byte ≡ e .slot) → Within most (dist (some byte) (e .slot) + 1) (fateBy (startOf (thePlan b) (inSequence (b .last) byte) byte (e .initiator) (b .side (e .initiator))) k)
       go (yes here) =
           own-visit (thePlan b) (z .inv .sound) e (z .has) (b .last) byte q here (b .side (e .initiator)) k r (z .inv .live (e .initiator)) (z .at) (z .fits)
           (Within most (dist (some byte) (e .slot) + 1)) tt (λ j s. omega (arith, dist-range (b .last) (e .slot)))
@@ -146,19 +146,19 @@ module _ (e : Entry) (r : state.Request) where
   }
 
   -- so it starts before the time is used up
-  started : (fs : List Fed) (b : Box) (k : ℕ) → Waiting e r b k → allNext b fs ≡ true → dist (b .last) (e .slot) + 64 * k ≤ ticks b fs → hasStarted (e .initiator) k b fs ≡ true
-  unfolding allNext ticks hasStarted feed
+  started : (fs : List Offer) (b : Box) (k : ℕ) → Waiting e r b k → allNext b fs ≡ true → dist (b .last) (e .slot) + 64 * k ≤ ticks b fs → hasStarted (e .initiator) k b fs ≡ true
+  unfolding allNext ticks hasStarted offered
   started [] b k z next h = absurd (omega (arith, dist-range (b .last) (e .slot)))
   started (f ∷ fs) b k z next h =
-      let c = both-true (not (isTick b (f .room) (f .event)) || isNext b (f .event)) (allNext (feed b f) fs) next in
-      go (started fs (feed b f)) (c .1) (fate b (e .initiator) k (f .room) (f .event)) refl (event-within (f .room) b (f .lent) (f .event) k z (c .0))
+      let c = both-true (not (isTick b (f .room) (f .event)) || isNext b (f .event)) (allNext (offered b f) fs) next in
+      go (started fs (offered b f)) (c .1) (fate b (e .initiator) k (f .room) (f .event)) refl (event-within (f .room) b (f .lent) (f .event) k z (c .0))
     where
       tick : ℕ
       tick = cond (isTick b (f .room) (f .event)) 1 0
 
-      go : ((j : ℕ) → Waiting e r (feed b f) j → allNext (feed b f) fs ≡ true → dist ((feed b f) .last) (e .slot) + 64 * j ≤ ticks (feed b f) fs → hasStarted (e .initiator) j (feed b f) fs ≡ true)
-          → allNext (feed b f) fs ≡ true → (a : Fate) → fate b (e .initiator) k (f .room) (f .event) ≡ a
-          → Within (dist (b .last) (e .slot) + 64 * k) (dist ((feed b f) .last) (e .slot) + tick) (fate b (e .initiator) k (f .room) (f .event)) → hasStarted (e .initiator) k b (f ∷ fs) ≡ true
+      go : ((j : ℕ) → Waiting e r (offered b f) j → allNext (offered b f) fs ≡ true → dist ((offered b f) .last) (e .slot) + 64 * j ≤ ticks (offered b f) fs → hasStarted (e .initiator) j (offered b f) fs ≡ true)
+          → allNext (offered b f) fs ≡ true → (a : Fate) → fate b (e .initiator) k (f .room) (f .event) ≡ a
+          → Within (dist (b .last) (e .slot) + 64 * k) (dist ((offered b f) .last) (e .slot) + tick) (fate b (e .initiator) k (f .room) (f .event)) → hasStarted (e .initiator) k b (f ∷ fs) ≡ true
       go ih rest starts g l = rw (g, hasStarted)
       go ih rest (waits j) g l = rw (g, hasStarted) (ih j (still-waiting (f .room) b (f .lent) (f .event) k j z g) rest (omega (arith, rw g at l)))
 

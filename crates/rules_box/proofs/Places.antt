@@ -19,7 +19,7 @@ use Rattle.rules_box.specs.State.{Box, Side, thePlan}
 use Rattle.rules_box.specs.Refuse.{refusal}
 use Rattle.rules_box.specs.Turn.{Start, inSequence, valueOf, asked, join, finish, aged, allows, fresh, startOf, turned}
 use Rattle.rules_box.specs.Step.{step, accepts, Outcome, withSide, ticked}
-use Rattle.rules_box.specs.History.{Fate, starts, waits, leaving, left, fate}
+use Rattle.rules_box.specs.History.{Fate, starts, waits, leaving, fateBy, fate}
 use Rattle.rules_box.specs.Promises.{HasStarted, ThisOne, ThisVeryRequest, JoinsAsAsked}
 use Rattle.rules_plan.specs.Promises.{AcceptedIsSound}
 use Rattle.rules_box.specs.laws.Turns.{begins, turned-start, turned-rest}
@@ -48,13 +48,13 @@ module _ (p : Plan) (q : Bool) (byte i : ℕ) (s : Side) (k : ℕ) (r : state.Re
           back = cond-cases (λ (j : ℕ). j ≤ k) (ltb n k) (k - 1) k (λ _. omega arith) (λ _. omega arith)
 
   pub fate-cases : ((x : Start) → startOf p q byte i s ≡ some x → x .found .what ≡ r → P starts)
-      → ((j : ℕ) → j ≤ k → atPlace j ((turned p q byte i s) .line) ≡ some r → P (waits j)) → P (left (startOf p q byte i s) k)
-  unfolding left aged
+      → ((j : ℕ) → j ≤ k → atPlace j ((turned p q byte i s) .line) ≡ some r → P (waits j)) → P (fateBy (startOf p q byte i s) k)
+  unfolding fateBy aged
   fate-cases f g = go (startOf p q byte i s) refl
     where
-      go : (o : Option Start) → startOf p q byte i s ≡ o → P (left (startOf p q byte i s) k)
-      go none e = rw (e, left) (g k (omega arith) (rw (turned-rest p q byte i s e) h))
-      go (some x) e = rw (e, left) (leaving-cases x e (f x e) g)
+      go : (o : Option Start) → startOf p q byte i s ≡ o → P (fateBy (startOf p q byte i s) k)
+      go none e = rw (e, fateBy) (g k (omega arith) (rw (turned-rest p q byte i s e) h))
+      go (some x) e = rw (e, fateBy) (leaving-cases x e (f x e) g)
 
 -- how a fate is told
 module _ (i : ℕ) (r : state.Request) (o : Outcome) where
@@ -69,7 +69,7 @@ module _ (i : ℕ) (r : state.Request) (o : Outcome) where
 
 module _ (b : Box) (w : Watchdog) (i k : ℕ) (r : state.Request) (h : atPlace k ((b .side i) .line) ≡ some r) where
   -- a time-code
-  tick-one : (byte clock : ℕ) → Sound (thePlan b) → ThisOne i r (accepts b w (TimeCode byte clock)) (left (startOf (thePlan b) (inSequence (b .last) byte) byte i (b .side i)) k)
+  tick-one : (byte clock : ℕ) → Sound (thePlan b) → ThisOne i r (accepts b w (TimeCode byte clock)) (fateBy (startOf (thePlan b) (inSequence (b .last) byte) byte i (b .side i)) k)
   unfolding accepts ticked fresh
   tick-one byte clock ok =
       let p = thePlan b in

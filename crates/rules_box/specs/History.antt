@@ -20,13 +20,13 @@ pub data Reached : Box → Type 0 where
   by-event : {b : Box} → Reached b → (room : ℕ) (w : Watchdog) (e : Event) → Reached ((step room b w e) .box)
 
 -- an event with what is lent to it
-pub record Fed : Type 0 where
+pub record Offer : Type 0 where
   pub room : ℕ
   pub lent : Watchdog
   pub event : Event
 
-unfoldable pub feed : Box → Fed → Box
-feed b f = (step (f .room) b (f .lent) (f .event)) .box
+unfoldable pub offered : Box → Offer → Box
+offered b f = (step (f .room) b (f .lent) (f .event)) .box
 
 -- a time-code that is accepted; and one that is in sequence
 unfoldable pub isTick : Box → ℕ → Event → Bool
@@ -46,14 +46,14 @@ unfoldable pub lasting : Box → ℕ → Event → Live → Live
 lasting b room e l = cond (isTick b room e) (older l) l
 
 -- how many time-codes of the events are accepted
-unfoldable pub ticks : Box → List Fed → ℕ
+unfoldable pub ticks : Box → List Offer → ℕ
 ticks b [] = 0
-ticks b (f ∷ fs) = cond (isTick b (f .room) (f .event)) 1 0 + ticks (feed b f) fs
+ticks b (f ∷ fs) = cond (isTick b (f .room) (f .event)) 1 0 + ticks (offered b f) fs
 
 -- all of these are in sequence
-unfoldable pub allNext : Box → List Fed → Bool
+unfoldable pub allNext : Box → List Offer → Bool
 allNext b [] = true
-allNext b (f ∷ fs) = (not (isTick b (f .room) (f .event)) || isNext b (f .event)) && allNext (feed b f) fs
+allNext b (f ∷ fs) = (not (isTick b (f .room) (f .event)) || isNext b (f .event)) && allNext (offered b f) fs
 
 -- what becomes of a request in a line at an event: it starts, or it waits at a place (the oldest at 0)
 pub data Fate : Type 0 where
@@ -64,15 +64,15 @@ pub data Fate : Type 0 where
 unfoldable pub leaving : ℕ → ℕ → Fate
 leaving taken k = elim (eqb taken k) [ true ↦ starts | false ↦ waits (cond (ltb taken k) (k - 1) k) ]
 
-unfoldable pub left : Option Start → ℕ → Fate
-left none k = waits k
-left (some x) k = leaving (x .found .place) k
+unfoldable pub fateBy : Option Start → ℕ → Fate
+fateBy none k = waits k
+fateBy (some x) k = leaving (x .found .place) k
 
 -- the request at place k of initiator i's line
 unfoldable pub fate : Box → ℕ → ℕ → ℕ → Event → Fate
 fate b i k room (TimeCode byte clock) =
     elim (eqb (refusal room b (TimeCode byte clock)) 0) [
-      | true ↦ left (startOf (thePlan b) (inSequence (b .last) byte) byte i (b .side i)) k
+      | true ↦ fateBy (startOf (thePlan b) (inSequence (b .last) byte) byte i (b .side i)) k
       | false ↦ waits k
     ]
 fate b i k room (Request j t kind n) = waits k
@@ -80,6 +80,6 @@ fate b i k room (Reply j m status) = waits k
 fate b i k room (Reading clock) = waits k
 
 -- it starts at one of the events
-unfoldable pub hasStarted : ℕ → ℕ → Box → List Fed → Bool
+unfoldable pub hasStarted : ℕ → ℕ → Box → List Offer → Bool
 hasStarted i k b [] = false
-hasStarted i k b (f ∷ fs) = elim (fate b i k (f .room) (f .event)) [ starts ↦ true | waits j ↦ hasStarted i j (feed b f) fs ]
+hasStarted i k b (f ∷ fs) = elim (fate b i k (f .room) (f .event)) [ starts ↦ true | waits j ↦ hasStarted i j (offered b f) fs ]

@@ -25,7 +25,7 @@ use Rattle.rules_box.specs.Refuse.{refusal, recordSize, mostRecords}
 use Rattle.rules_box.specs.Turn.{inSequence, valueOf, class, aged, turned}
 use Rattle.rules_box.specs.Records.{Record, recordBytes, full, records}
 use Rattle.rules_box.specs.Step.{step, Outcome}
-use Rattle.rules_box.specs.History.{Reached, Fed, lasting, ticks, allNext, Fate, starts, waits, fate, hasStarted}
+use Rattle.rules_box.specs.History.{Reached, Offer, lasting, ticks, allNext, Fate, starts, waits, fate, hasStarted}
 
 -- Demand 1. "A refused event changes nothing": it answers its number, and box, watchdog and records are as they were.
 unfoldable pub RefusedEventChangesNothing : Type 0
@@ -104,7 +104,7 @@ RequestsStartInTime =
     (b : Box) → Reached b → (room : ℕ) (w : Watchdog) (i t k n : ℕ) → refusal room b (Request i t k n) ≡ 0 →
     let joined = (step room b w (Request i t k n)) .box in
     let place = length ((b .side i) .line) in
-    (fs : List Fed) → allNext joined fs ≡ true → 64 * (place + 1) ≤ ticks joined fs → hasStarted i place joined fs ≡ true
+    (fs : List Offer) → allNext joined fs ≡ true → 64 * (place + 1) ≤ ticks joined fs → hasStarted i place joined fs ≡ true
 
 -- It is this very request: where it waits, the line holds it at that place; where it starts, its record is written and it is live.
 pub record HasStarted (i : ℕ) (r : state.Request) (o : Outcome) : Type 0 where

@@ -9,7 +9,7 @@ use Rattle.rules_plan.specs.Judge.{judge}
 use Rattle.rules_plan.specs.Print.{text}
 use Rattle.rules_plan.specs.Print as print
 use Rattle.rules_plan.specs.Copy.{sized, copyAnswer, copied}
-use Rattle.memory_plan.specs.Held.{Held}
+use Rattle.memory_plan.specs.PlanHeld.{PlanHeld}
 use Rattle.rules_box.specs.declared.Event.{Event}
 use Rattle.rules_box.specs.declared.Event.the-variants as event
 use Rattle.rules_box.specs.declared.Answer.{Answer}
@@ -48,7 +48,7 @@ pub record Stepped (e : Event) (lent : List ℕ) (before after : Kept) (printed 
 
 -- memory holds a plan, or none, as a clear or a load leaves it
 abbrev pub HeldIn : Memory → Option Plan → Type 0
-HeldIn m o = Held o (m .sets) (m .ends) (m .rows) (m .reach) (m .paths) (m .spans) (m .aims) (m .numbers)
+HeldIn m o = PlanHeld o (m .sets) (m .ends) (m .rows) (m .reach) (m .paths) (m .spans) (m .aims) (m .numbers)
 
 -- writing out, into a buffer of some room that is all 0
 abbrev pub WrittenOut : ℕ → Memory → List ℕ → Type 0

@@ -8,7 +8,7 @@ use native.Mathlib.Omega.{arith}
 use mir.Val.{boolByte}
 use Rattle.lists.specs.laws.Bools.{not-both}
 use Rattle.memory_plan.specs.Memory.{Holds}
-use Rattle.load_plan.specs.Load.{left, HoldsPlanOf}
+use Rattle.load_plan.specs.Load.{planLeft, HoldsPlanOf}
 use Rattle.rules_box.specs.declared.Watchdog.{Watchdog}
 use Rattle.rules_box.specs.State.{cleared, watchdogCleared}
 use Rattle.box_calls.specs.Calls.{Memory, At}
@@ -27,6 +27,6 @@ is-blank m b f = record { most = at-most-1 b; says = as-number b f }
 
 pub holds-it : {file sets ends rows reach paths spans aims numbers sets′ ends′ rows′ reach′ paths′ spans′ aims′ numbers′ : List ℕ} (b : Bool)
     → (b ≡ true) ↔ HoldsPlanOf file sets ends rows reach paths spans aims numbers
-    → Holds (left file) sets′ ends′ rows′ reach′ paths′ spans′ aims′ numbers′
+    → Holds (planLeft file) sets′ ends′ rows′ reach′ paths′ spans′ aims′ numbers′
     → HoldsIt file (boolByte b) sets ends rows reach paths spans aims numbers sets′ ends′ rows′ reach′ paths′ spans′ aims′ numbers′
 holds-it b f h = record { most = at-most-1 b; says = as-number b f; beside = h }

@@ -12,8 +12,8 @@ use Rattle.rules_plan.specs.Judge.{judge}
 use Rattle.rules_plan.specs.Copy.{copyAnswer, copied}
 use Rattle.rules_plan.specs.Print as print
 use Rattle.memory_plan.specs.Memory as plan
-use Rattle.memory_plan.specs.Held.{Held}
-use Rattle.load_plan.specs.Load.{left, HoldsPlanOf}
+use Rattle.memory_plan.specs.PlanHeld.{PlanHeld}
+use Rattle.load_plan.specs.Load.{planLeft, HoldsPlanOf}
 use Rattle.rules_box.specs.declared.Event.the-variants.{TimeCode, Request, Reply, Reading}
 use Rattle.rules_box.specs.declared.Answer.{Answer}
 use Rattle.rules_box.specs.declared.Watchdog.{Watchdog}
@@ -35,7 +35,7 @@ pub record Loads (file : List ℕ) (m′ : Memory) (w′ : Watchdog) (verdict′
   pub verdict : verdict′ ≡ verdictNumbers (judge file)
 
 -- document 01's eight numbers of an answer; which one, `Steps` says where memory holds a box
-pub record Answered (answer′ : List ℕ) (Does : Answer → Type 0) : Type 0 where
+pub record EventAnswered (answer′ : List ℕ) (Does : Answer → Type 0) : Type 0 where
   pub answer : Answer
   pub numbers : answer′ ≡ listed (values answer)
   pub does : Does answer
@@ -46,17 +46,17 @@ withTimes r w = record { last = r .last; seen = r .seen; reported = r .reported;
 
 -- `spwd_c_time_code`. It is lent no rows: run memory has the initiators of what it tells.
 pub record TimeCodes (spans aims numbers run last : List ℕ) (w : Watchdog) (byte clock : ℕ) (records run′ last′ : List ℕ) (w′ : Watchdog) (records′ answer′ : List ℕ) : Type 0 where
-  pub steps : Answered answer′ λ a.
+  pub steps : EventAnswered answer′ λ a.
       (rows : List ℕ) → Steps rows spans aims numbers run last w records (TimeCode byte clock) a run′ last′ w′ records′
 
 -- `spwd_c_request`. It is lent no last time-code, no five numbers and no record buffer: it is the step with any of these, and they stay.
 pub record Requests (rows spans aims numbers run : List ℕ) (initiator target kind size : ℕ) (run′ answer′ : List ℕ) : Type 0 where
-  pub steps : Answered answer′ λ a.
+  pub steps : EventAnswered answer′ λ a.
       (last : List ℕ) (w : Watchdog) (records : List ℕ) → Steps rows spans aims numbers run last w records (Request initiator target kind size) a run′ last w records
 
 -- `spwd_c_reply`. The same, and it is not lent the entries either.
 pub record Replies (rows numbers run : List ℕ) (initiator transaction status : ℕ) (run′ answer′ : List ℕ) : Type 0 where
-  pub steps : Answered answer′ λ a.
+  pub steps : EventAnswered answer′ λ a.
       (spans aims last : List ℕ) (w : Watchdog) (records : List ℕ) → Steps rows spans aims numbers run last w records (Reply initiator transaction status) a run′ last w records
 
 -- a watchdog that is reported where the next time-code is overdue
@@ -66,13 +66,13 @@ reportedWhere false w = w
 
 -- `spwd_c_reading`. It is lent only whether there is a plan, and the five numbers.
 pub record Readings (numbers : List ℕ) (w : Watchdog) (clock : ℕ) (w′ : Watchdog) (answer′ : List ℕ) : Type 0 where
-  pub steps : Answered answer′ λ a.
+  pub steps : EventAnswered answer′ λ a.
       (rows spans aims run last records : List ℕ) → Steps rows spans aims numbers run last w records (Reading clock) a run last w′ records
 
 -- `spwd_c_write_out`. It is not lent `reach`, which it need not read.
 abbrev pub WritesOut : (sets ends rows paths spans aims numbers out out′ answer′ : List ℕ) → Type 0
 WritesOut sets ends rows paths spans aims numbers out out′ answer′ =
-    (o : Option Plan) (reach : List ℕ) → Held o sets ends rows reach paths spans aims numbers
+    (o : Option Plan) (reach : List ℕ) → PlanHeld o sets ends rows reach paths spans aims numbers
     → (answer′ ≡ sizedNumbers (copyAnswer (length out) o)) × (out′ ≡ copied o out)
 
 -- `spwd_c_print`: the line of the verdict of these numbers; those of a verdict on a file are of no other verdict
@@ -91,4 +91,4 @@ pub record IsBlank (m : Memory) (w : Watchdog) (r : ℕ) : Type 0 where
 pub record HoldsIt (file : List ℕ) (r : ℕ) (sets ends rows reach paths spans aims numbers sets′ ends′ rows′ reach′ paths′ spans′ aims′ numbers′ : List ℕ) : Type 0 where
   pub most : r ≤ 1
   pub says : (r ≡ 1) ↔ HoldsPlanOf file sets ends rows reach paths spans aims numbers
-  pub beside : plan.Holds (left file) sets′ ends′ rows′ reach′ paths′ spans′ aims′ numbers′
+  pub beside : plan.Holds (planLeft file) sets′ ends′ rows′ reach′ paths′ spans′ aims′ numbers′

@@ -16,7 +16,7 @@ use Rattle.memory_plan.specs.laws.SameMemory.{holds-canonical}
 use Rattle.rules_box.specs.declared.Watchdog.{Watchdog}
 use Rattle.rules_box.specs.State.{cleared, watchdogCleared, holding, watchdogFor, isAccepted, loaded, watchdogLoaded, thePlan}
 use Rattle.memory_run.specs.Run.{lastOf}
-use Rattle.load_plan.specs.Load.{left}
+use Rattle.load_plan.specs.Load.{planLeft}
 use Rattle.box_calls.specs.Box.{Holds}
 use Rattle.box_calls.specs.laws.Idle.{idle-run}
 
@@ -35,9 +35,9 @@ module _ {sets ends rows reach paths spans aims numbers run last : List ℕ} whe
   unfolding holding thePlan lastOf
   holds-fresh p m r l = record { plan = m; runs = record { run = r ∙ sym (idle-run p); last = l } }
 
-  pub holds-loaded : (file : List ℕ) → plan.Holds (left file) sets ends rows reach paths spans aims numbers → run ≡ replicate 96 0 → last ≡ replicate 1 0
+  pub holds-loaded : (file : List ℕ) → plan.Holds (planLeft file) sets ends rows reach paths spans aims numbers → run ≡ replicate 96 0 → last ≡ replicate 1 0
       → Holds (loaded file) sets ends rows reach paths spans aims numbers run last
-  unfolding left loaded isAccepted planOf
+  unfolding planLeft loaded isAccepted planOf
   holds-loaded file m r l = go (isAccepted file) refl m
     where
       go : (x : Bool) → isAccepted file ≡ x → plan.Holds (cond x (given file) blank) sets ends rows reach paths spans aims numbers
@@ -49,8 +49,8 @@ module _ {sets ends rows reach paths spans aims numbers run last : List ℕ} whe
 abbrev fresh : ℕ → ℕ → Watchdog
 fresh least greatest = record { last = 0; seen = 0; reported = 0; least = least; greatest = greatest }
 
-pub load-watchdog : (file : List ℕ) {least greatest : ℕ} → least ≡ leastOf ((left file) .timings) → greatest ≡ greatestOf ((left file) .timings) → fresh least greatest ≡ watchdogLoaded file
-unfolding left watchdogLoaded watchdogFor watchdogCleared isAccepted planOf canonical blank leastOf greatestOf
+pub load-watchdog : (file : List ℕ) {least greatest : ℕ} → least ≡ leastOf ((planLeft file) .timings) → greatest ≡ greatestOf ((planLeft file) .timings) → fresh least greatest ≡ watchdogLoaded file
+unfolding planLeft watchdogLoaded watchdogFor watchdogCleared isAccepted planOf canonical blank leastOf greatestOf
 load-watchdog file l g = rw (l, g) (go (isAccepted file))
   where
     go : (x : Bool) → fresh (leastOf ((cond x (given file) blank) .timings)) (greatestOf ((cond x (given file) blank) .timings)) ≡ cond x (watchdogFor (planOf file)) watchdogCleared

@@ -15,7 +15,7 @@ use Rattle.rules_plan.specs.Canon.{written, planOf}
 use Rattle.rules_plan.specs.Promises.{ComesBack, WrittenOutComesBack}
 use Rattle.rules_plan.specs.laws.Copies.{answers-size, puts-bytes}
 use Rattle.memory_plan.specs.Memory.{Holds}
-use Rattle.load_plan.specs.Load.{kept}
+use Rattle.load_plan.specs.Load.{planKept}
 use Rattle.load_plan.specs.Back.{LoadedIsHeld, ClearedIsHeld, OneMemory, outOf, LoadsBack, WrittenOutLoadsBack, Promises}
 use Rattle.load_plan.specs.laws.Loaded.{left-plan, left-held}
 
@@ -35,8 +35,8 @@ one-memory a b = record {
 }
 
 module _ (s buffer : List ℕ) (accepted : number (judge s) ≡ 0) (back : ComesBack s) (room : length (written (planOf s)) ≤ length buffer) where
-  there : kept s ≡ some (planOf s)
-  unfolding kept
+  there : planKept s ≡ some (planOf s)
+  unfolding planKept
   there = rw (eq-eqb (number (judge s)) 0 accepted)
 
   out-bytes : outOf s buffer ≡ written (planOf s)

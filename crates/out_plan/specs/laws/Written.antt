@@ -21,7 +21,7 @@ use Rattle.rules_plan.specs.laws.Size.{most-bytes}
 use Rattle.rules_plan.specs.laws.Copies.{no-room, answers-size, puts-bytes}
 use Rattle.rules_plan.specs.Meaning.{leastOf, greatestOf}
 use Rattle.memory_plan.specs.Memory.{setsOf, endsOf, rowsOf, pathsOf, spansOf, aimsOf, numbersWith, numbersOf}
-use Rattle.memory_plan.specs.Held.{Held, HoldsPlan}
+use Rattle.memory_plan.specs.PlanHeld.{PlanHeld, HoldsPlan}
 use Rattle.memory_plan.specs.laws.BlankMemory.{good-not-blank}
 use Rattle.out_plan.specs.Out.{outBytes}
 use Rattle.out_items.specs.Out.{timingBytes}
@@ -43,7 +43,7 @@ unfolding outBytes setsOf numbersWith written items
 plan-out p good e = rw (devices-out p good e, links-out p good e, paths-out p good e, entries-out p good e, timing-out (p .timings) (good .timing)) (simp flat-append)
 
 module _ {sets ends rows reach paths spans aims numbers : List ℕ} where
-  no-interval : Held none sets ends rows reach paths spans aims numbers → nth numbers 1 ≡ 0
+  no-interval : PlanHeld none sets ends rows reach paths spans aims numbers → nth numbers 1 ≡ 0
   unfolding numbersWith greatestOf blank
   no-interval h = ap (λ (l : List ℕ). nth l 1) (h .numbers)
 
@@ -60,20 +60,20 @@ module _ {sets ends rows reach paths spans aims numbers : List ℕ} where
 
 -- what is answered and what the buffer is afterwards: by the interval, the size, and the bytes put
 module _ (sets ends rows reach paths spans aims numbers buffer : List ℕ) where
-  pub refuses-20 : nth numbers 1 ≡ 0 → (o : Option Plan) → Held o sets ends rows reach paths spans aims numbers
+  pub refuses-20 : nth numbers 1 ≡ 0 → (o : Option Plan) → PlanHeld o sets ends rows reach paths spans aims numbers
       → (NotWritten 20 ≡ copyAnswer (length buffer) o) × (buffer ≡ copied o buffer)
   unfolding copyAnswer copied copyRefusal copyRows firstOf isSome
   refuses-20 e none h = (refl, refl)
   refuses-20 e (some p) h = absurd (an-interval p h e)
 
-  pub refuses-30 : (nth numbers 1 ≡ 0 → ⊥) → length buffer < nth numbers 5 % 65536 → (o : Option Plan) → Held o sets ends rows reach paths spans aims numbers
+  pub refuses-30 : (nth numbers 1 ≡ 0 → ⊥) → length buffer < nth numbers 5 % 65536 → (o : Option Plan) → PlanHeld o sets ends rows reach paths spans aims numbers
       → (NotWritten 30 ≡ copyAnswer (length buffer) o) × (buffer ≡ copied o buffer)
   unfolding copyAnswer copied
   refuses-30 d l none h = absurd (d (no-interval h))
   refuses-30 d l (some p) h = let e = no-room (length buffer) p (omega (arith, size-at p h)) in (rw (e, copyAnswer) (ap NotWritten (sym e)), rw (e, copied))
 
   pub writes : (nth numbers 1 ≡ 0 → ⊥) → nth numbers 5 % 65536 ≤ length buffer → {after : List ℕ} {k : ℕ}
-      → Puts buffer 0 (outBytes sets ends rows paths spans aims numbers) after k → (o : Option Plan) → Held o sets ends rows reach paths spans aims numbers
+      → Puts buffer 0 (outBytes sets ends rows paths spans aims numbers) after k → (o : Option Plan) → PlanHeld o sets ends rows reach paths spans aims numbers
       → (Written (nth numbers 5 % 65536) ≡ copyAnswer (length buffer) o) × (after ≡ copied o buffer)
   writes d l f none h = absurd (d (no-interval h))
   writes d l f (some p) h =

@@ -13,6 +13,6 @@ pub record HoldsPlan (p : Plan) (sets ends rows reach paths spans aims numbers :
   pub ordered : canonical p ≡ p
   pub holds : Holds p sets ends rows reach paths spans aims numbers
 
-abbrev pub Held : Option Plan → (sets ends rows reach paths spans aims numbers : List ℕ) → Type 0
-Held none = Holds blank
-Held (some p) = HoldsPlan p
+abbrev pub PlanHeld : Option Plan → (sets ends rows reach paths spans aims numbers : List ℕ) → Type 0
+PlanHeld none = Holds blank
+PlanHeld (some p) = HoldsPlan p
