@@ -1,2 +1,3 @@
 -- Laws of the program.
 pub mod Takes
+pub mod Rounds

@@ -1,6 +1,8 @@
 // The lines that are in the input buffer answered, and the answers gathered in an output buffer.
-ghost use Rattle.box_calls.specs.Calls.{lentIn, leftIn};
-ghost use Rattle.replay.specs.Gather.{Flushed, Roomy, Gathers, Passes, Ends, Answered};
+ghost use mathlib.Core.Path.{_≡_};
+ghost use Prim.Native.Nat.{_≤_};
+ghost use Rattle.box_calls.specs.Calls.{Memory, lentIn, leftIn};
+ghost use Rattle.replay.specs.Gather.{stand, flushed, roomy, Gathers, Passes, Ends, LinesAnswered};
 use crate::lines::find_newline;
 use bytes_get::part;
 use bytes_put::put;
@@ -21,16 +23,27 @@ pub struct Desk {
     pub failed: bool,
 }
 
-// Writes what is gathered, unless a write failed before.
-pub fn flush(d: Desk, out: &[u8]) -> Desk
-    ensures { λ r. ⌜ Flushed d r ⌝ }
+// Room for one answer, and for the answers gathered: two of the longest.
+pub type Text = [u8; 65600];
+
+pub type Output = [u8; 131200];
+
+// Writes what is gathered, unless a write failed before; in either case nothing is gathered any more.
+pub fn flush(d: Desk, out: &Output) -> Desk
+    ensures { λ r. ⌜ r ≡ flushed (r .failed) d ⌝ }
 {
+    let watchdog = d.watchdog;
     if d.failed {
-        return d;
+        return Desk {
+            count: d.count,
+            watchdog,
+            gathered: 0,
+            passing: d.passing,
+            failed: true,
+        };
     }
     let at = d.gathered;
     let written = io::write_all(STDOUT_FILENO, part(out, 0, at));
-    let watchdog = d.watchdog;
     Desk {
         count: d.count,
         watchdog,
@@ -41,21 +54,16 @@ pub fn flush(d: Desk, out: &[u8]) -> Desk
 }
 
 // Writes what is gathered where the longest answer might have no room behind it.
-fn make_room(d: Desk, out: &[u8]) -> Desk
-    ensures { λ r. ⌜ Roomy d (now (out .entry)) r ⌝ }
+fn make_room(d: Desk, out: &Output) -> Desk
+    ensures { λ r. ⌜ r ≡ roomy (r .failed) d ⌝ }
 {
-    let at = d.gathered;
-    let room = out.len();
-    if at > room {
-        return flush(d, out);
-    }
-    if room - at < 65_600 {
+    if d.gathered > 65_600 {
         return flush(d, out);
     }
     d
 }
 
-// One line answered. Lines are counted modulo 2 to the 64, which no input reaches.
+// One line answered, where its answer has room. Lines are counted modulo 2 to the 64, which no input reaches.
 fn answer_line(
     line: &[u8],
     sets: &mut Sets,
@@ -69,10 +77,11 @@ fn answer_line(
     run: &mut Run,
     last: &mut Last,
     d: Desk,
-    text: &mut [u8; 65600],
-    out: &mut [u8],
+    text: &mut Text,
+    out: &mut Output,
 ) -> Desk
-    ensures { λ r. ⌜ Gathers (now (line .entry)) d (lentIn sets ends rows reach paths spans aims numbers run last) (now (out .entry)) r (leftIn sets ends rows reach paths spans aims numbers run last) (now (out .exit)) ⌝ }
+    requires { ⌜ d .gathered ≤ 65_600 ⌝ }
+    ensures { λ r. ⌜ Gathers (now (line .entry)) (stand d (lentIn sets ends rows reach paths spans aims numbers run last) (now (text .entry)) (now (out .entry))) (stand r (leftIn sets ends rows reach paths spans aims numbers run last) (now (text .exit)) (now (out .exit))) ⌝ }
 {
     let count = std::num::wrapping_add_u64(d.count, 1);
     let five = d.watchdog;
@@ -106,8 +115,8 @@ fn answer_line(
 }
 
 // A line that is longer than the input buffer: its answer, by the front of it that is there, and the rest of it is to be passed over.
-pub fn pass_over(front: &[u8], d: Desk, text: &mut [u8; 65600], out: &mut [u8]) -> Desk
-    ensures { λ r. ⌜ Passes (now (front .entry)) d (now (out .entry)) r (now (out .exit)) ⌝ }
+pub fn pass_over(front: &[u8], d: Desk, text: &mut Text, out: &mut Output) -> Desk
+    ensures { λ r. ⌜ ((m : Memory) → Passes (now (front .entry)) (stand d m (now (text .entry)) (now (out .entry))) (stand r m (now (text .exit)) (now (out .exit)))) ⌝ }
 {
     if d.passing {
         return d;
@@ -141,10 +150,10 @@ pub fn end_line(
     run: &mut Run,
     last: &mut Last,
     d: Desk,
-    text: &mut [u8; 65600],
-    out: &mut [u8],
+    text: &mut Text,
+    out: &mut Output,
 ) -> Desk
-    ensures { λ r. ⌜ Ends (now (line .entry)) d (lentIn sets ends rows reach paths spans aims numbers run last) (now (out .entry)) r (leftIn sets ends rows reach paths spans aims numbers run last) (now (out .exit)) ⌝ }
+    ensures { λ r. ⌜ Ends (now (line .entry)) (stand d (lentIn sets ends rows reach paths spans aims numbers run last) (now (text .entry)) (now (out .entry))) (stand r (leftIn sets ends rows reach paths spans aims numbers run last) (now (text .exit)) (now (out .exit))) ⌝ }
 {
     if d.passing {
         let watchdog = d.watchdog;
@@ -195,10 +204,10 @@ pub fn answer_lines(
     run: &mut Run,
     last: &mut Last,
     desk: Desk,
-    text: &mut [u8; 65600],
-    out: &mut [u8],
+    text: &mut Text,
+    out: &mut Output,
 ) -> Rest
-    ensures { λ r. ⌜ Answered (now (input .entry)) desk (lentIn sets ends rows reach paths spans aims numbers run last) (now (out .entry)) (r .start) (r .desk) (leftIn sets ends rows reach paths spans aims numbers run last) (now (out .exit)) ⌝ }
+    ensures { λ r. ⌜ LinesAnswered (now (input .entry)) (stand desk (lentIn sets ends rows reach paths spans aims numbers run last) (now (text .entry)) (now (out .entry))) (r .start) (stand (r .desk) (leftIn sets ends rows reach paths spans aims numbers run last) (now (text .exit)) (now (out .exit))) ⌝ }
 {
     let mut d = desk;
     let mut start = 0;

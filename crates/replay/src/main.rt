@@ -4,13 +4,15 @@ ghost use mathlib.Core.Path.{_≡_};
 ghost use Prim.Native.Nat.{_≤_};
 ghost use lib.ListN.{length, replicate};
 ghost use Rattle.box_calls.specs.Calls.{lentIn, leftIn};
-ghost use Rattle.replay.specs.Gather.{Taken};
+ghost use Rattle.replay.specs.Gather.{stand, Taken};
+ghost use Rattle.replay.specs.Rounds.{Brings, Finishes, Serves};
 use answers::Desk;
+use answers::Output;
+use answers::Text;
 use answers::answer_lines;
 use answers::end_line;
 use answers::flush;
 use answers::pass_over;
-use bytes_get::part;
 use libc::STDERR_FILENO;
 use libc::STDIN_FILENO;
 use lines::shift;
@@ -31,7 +33,7 @@ struct Input {
 // Reads behind the bytes that are there; a read may bring fewer bytes than there is room for.
 fn read_more(input: &mut [u8], len: usize) -> Input
     requires { ⌜ len ≤ length (now input) ⌝ }
-    ensures { λ r. ⌜ (len ≤ r .len) × (r .len ≤ length (now (input .exit))) ⌝ }
+    ensures { λ r. ⌜ Brings (now (input .entry)) len (now (input .exit)) r ⌝ }
 {
     let got = libc::read(STDIN_FILENO, &mut input[len..]);
     let k = io::count(got, &input[len..]);
@@ -49,13 +51,13 @@ fn input_room() -> [u8; 65536]
     [0; 65536]
 }
 
-fn text_room() -> [u8; 65600]
+fn text_room() -> Text
     ensures { λ r. ⌜ r ≡ replicate 65_600 0 ⌝ }
 {
     [0; 65600]
 }
 
-fn output_room() -> [u8; 131200]
+fn output_room() -> Output
     ensures { λ r. ⌜ r ≡ replicate 131_200 0 ⌝ }
 {
     [0; 131200]
@@ -82,11 +84,11 @@ fn take_lines(
     run: &mut Run,
     last: &mut Last,
     desk: Desk,
-    text: &mut [u8; 65600],
-    out: &mut [u8],
+    text: &mut Text,
+    out: &mut Output,
 ) -> Left
     requires { ⌜ len ≤ length (now input) ⌝ }
-    ensures { λ r. ⌜ Taken (now (input .entry)) len desk (lentIn sets ends rows reach paths spans aims numbers run last) (now (out .entry)) (now (input .exit)) r (leftIn sets ends rows reach paths spans aims numbers run last) (now (out .exit)) ⌝ }
+    ensures { λ r. ⌜ Taken (now (input .entry)) len (stand desk (lentIn sets ends rows reach paths spans aims numbers run last) (now (text .entry)) (now (out .entry))) (now (input .exit)) (r .len) (stand (r .desk) (leftIn sets ends rows reach paths spans aims numbers run last) (now (text .exit)) (now (out .exit))) ⌝ }
 {
     let rest = answer_lines(
         &input[..len],
@@ -119,8 +121,7 @@ fn take_lines(
 
 // The end of the input: a last line may lack its newline.
 fn finish(
-    input: &[u8],
-    len: usize,
+    line: &[u8],
     sets: &mut Sets,
     ends: &mut Ends,
     rows: &mut Rows,
@@ -132,15 +133,16 @@ fn finish(
     run: &mut Run,
     last: &mut Last,
     d: Desk,
-    text: &mut [u8; 65600],
-    out: &mut [u8],
-) {
-    if len == 0 {
-        flush(d, out);
-        return;
+    text: &mut Text,
+    out: &mut Output,
+) -> Desk
+    ensures { λ r. ⌜ Finishes (now (line .entry)) (stand d (lentIn sets ends rows reach paths spans aims numbers run last) (now (text .entry)) (now (out .entry))) (stand r (leftIn sets ends rows reach paths spans aims numbers run last) (now (text .exit)) (now (out .exit))) ⌝ }
+{
+    if line.len() == 0 {
+        return flush(d, out);
     }
     let ended = end_line(
-        part(input, 0, len),
+        line,
         sets,
         ends,
         rows,
@@ -155,7 +157,13 @@ fn finish(
         text,
         out,
     );
-    flush(ended, out);
+    flush(ended, out)
+}
+
+// What is left where the program ends, and whether it ends with input that could not be read.
+struct End {
+    desk: Desk,
+    unread: bool,
 }
 
 // Reads and answers until the input ends or fails, or a write fails. The turns are counted only so that the loop is seen to end.
@@ -171,7 +179,9 @@ fn serve(
     run: &mut Run,
     last: &mut Last,
     cleared: Watchdog,
-) {
+) -> End
+    ensures { λ r. ⌜ Serves (lentIn sets ends rows reach paths spans aims numbers run last) cleared r (leftIn sets ends rows reach paths spans aims numbers run last) ⌝ }
+{
     let mut input = input_room();
     let mut text = text_room();
     let mut out = output_room();
@@ -187,13 +197,14 @@ fn serve(
     while turns < 18_446_744_073_709_551_615 {
         let read = read_more(&mut input, len);
         if read.failed {
-            io::write_all(STDERR_FILENO, b"replay: standard input could not be read\n");
-            return;
+            return End {
+                desk: d,
+                unread: true,
+            };
         }
         if read.ended {
-            finish(
-                &input,
-                len,
+            let desk = finish(
+                &input[..len],
                 sets,
                 ends,
                 rows,
@@ -208,7 +219,10 @@ fn serve(
                 &mut text,
                 &mut out,
             );
-            return;
+            return End {
+                desk,
+                unread: false,
+            };
         }
         let left = take_lines(
             &mut input,
@@ -231,9 +245,16 @@ fn serve(
         let after = left.desk;
         d = flush(after, &out);
         if d.failed {
-            return;
+            return End {
+                desk: d,
+                unread: false,
+            };
         }
         turns += 1;
+    }
+    End {
+        desk: d,
+        unread: true,
     }
 }
 
@@ -261,7 +282,7 @@ fn main() {
         &mut run,
         &mut last,
     );
-    serve(
+    let end = serve(
         &mut sets,
         &mut ends,
         &mut rows,
@@ -274,4 +295,7 @@ fn main() {
         &mut last,
         cleared,
     );
+    if end.unread {
+        io::write_all(STDERR_FILENO, b"replay: standard input could not be read\n");
+    }
 }

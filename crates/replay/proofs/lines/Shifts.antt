@@ -4,7 +4,7 @@ use mathlib.Core.List.{List, [], _∷_, _++_}
 use Prim.Native.Nat.{ℕ, suc, _+_, _-_, _≤_, _<_}
 use native.Mathlib.Numerals.{add-one}
 use native.Mathlib.Omega.{arith}
-use lib.ListN.{length, getD, set, take, drop, length-set, length-drop}
+use lib.ListN.{length, getD, set, take, drop, length-set, length-drop, take-append-drop}
 use lib.Seq.{take-suc, take-suc-set, drop-set-lt, getD-drop, drop-drop}
 
 pub record Shifted (s₀ : List ℕ) (from n : ℕ) (s : List ℕ) (i : ℕ) : Type 0 where
@@ -31,5 +31,5 @@ module _ {s₀ s : List ℕ} {from n i : ℕ} (f : Shifted s₀ from n s i) wher
     rest = drop-set-lt (i + 1) s i (getD s (from + i) 0) (omega arith) ∙ sym (drop-drop 1 i s) ∙ ap (drop 1) (f .rest) ∙ drop-drop 1 i s₀;
   }
 
-  pub shift-done : n ≤ i → take n s ≡ take n (drop from s₀)
-  shift-done h = let e : i ≡ n = omega (arith, f .upto) in rw e at (f .front)
+  pub shift-done : n ≤ i → s ≡ take n (drop from s₀) ++ drop n s₀
+  shift-done h = let e : i ≡ n = omega (arith, f .upto) in sym (take-append-drop n s) ∙ rw (rw e at (f .front), rw e at (f .rest))

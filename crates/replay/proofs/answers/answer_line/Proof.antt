@@ -1,7 +1,6 @@
 -- `replay::answers::answer_line` meets its contract. Assumes nothing.
-use mathlib.Core.Path.{refl}
 use borrow.Author.Needs.{needs}
-use Rattle.replay.proofs.answers.Gathered.{puts-printed}
+use Rattle.replay.proofs.answers.Gathered.{gathers}
 use Rattle.replay.proofs.answers.answer_line.Statement.{statement}
 use Rattle.replay.proofs.answers.answer_line.Tie as tie
 
@@ -17,28 +16,18 @@ part-requires c κs = search needs
 put-requires : tie.Need-put-requires
 put-requires c κs = search needs
 
-same-length : tie.Need-same-length
-same-length c = search needs
-
 returns : tie.Need-returns
 returns c =
-    let a = c .before .before .before .before .before .before .before .before in
-    record {
-      count = a .before .before .before .before .before .before .before .before .before .before .before .before .before .wrapping-add-u64 .ensures;
-      passing = refl;
-      failed = refl;
-      printed = a .answer .ensures .printed;
-      replied = a .answer .ensures .told;
-      puts = puts-printed (a .answer .ensures .prints) (rw (c .before .before .before .part .ensures) at (c .before .before .put .ensures));
-    }
+    let a = c .before .before .before .before .before .before in
+    let w = a .before .before .before .before .before .before .before .before .before .before .before .before .before in
+    gathers
+    _
+    (w .before .before .pre)
+    (c .before .before .before .before .put-arg .given .0 .1)
+    (search needs)
+    (w .wrapping-add-u64 .ensures)
+    (rw (c .before .part .ensures) at (c .put .ensures))
+    (a .answer .ensures)
 
 pub answer-line-spec : {M : Type 1} → statement M
-answer-line-spec =
-    tie.close
-    (tie.spec
-    wrapping-add-u64-requires
-    answer-requires
-    part-requires
-    put-requires
-    same-length
-    returns)
+answer-line-spec = tie.close (tie.spec wrapping-add-u64-requires answer-requires part-requires put-requires returns)

@@ -1,18 +1,11 @@
 -- `replay::answers::pass_over` meets its contract. Assumes nothing.
-use mathlib.Core.Path.{refl}
 use borrow.Author.Needs.{needs}
-use Rattle.lists.specs.laws.Bools.{not-both}
-use Rattle.replay.proofs.answers.Gathered.{puts-printed}
+use Rattle.replay.proofs.answers.Gathered.{passes-again, passes-first}
 use Rattle.replay.proofs.answers.pass_over.Statement.{statement}
 use Rattle.replay.proofs.answers.pass_over.Tie as tie
 
 returns : tie.Need-returns
-returns c = record {
-  passing = c .if1 .taken;
-  watchdog = refl;
-  again = λ _. (refl, refl);
-  first = λ h. not-both (c .if1 .taken) h;
-}
+returns c = λ m. passes-again (c .if1 .taken)
 
 make-room-requires : tie.Need-make-room-requires
 make-room-requires c κs = search needs
@@ -29,25 +22,19 @@ part-requires c κs = search needs
 put-requires : tie.Need-put-requires
 put-requires c κs = search needs
 
-same-length : tie.Need-same-length
-same-length c = search needs
-
 returns-2 : tie.Need-returns-2
 returns-2 c =
-    let l = c .before .before .before .before .before .before .before in
-    let m = l .before .before .before .before in
-    let n = l .before .before .before .wrapping-add-u64 .ensures in
-    record {
-      passing = refl;
-      watchdog = m .make-room .ensures .watchdog;
-      again = λ h. not-both h (m .before .before .if1 .left);
-      first = λ _. (
-        m .make-room .result,
-        m .make-room .ensures,
-        rw (m .make-room .ensures .count) at n,
-        puts-printed (l .over-long .ensures) (rw (c .before .before .before .part .ensures) at (c .before .before .put .ensures)),
-      );
-    }
+    let l = c .before .before .before .before .before in
+    let w = l .before .before .before in
+    let m = w .before in
+    λ _. passes-first
+    (m .before .before .if1 .left)
+    (m .make-room .ensures)
+    (c .before .before .before .before .put-arg .given .0 .1)
+    (search needs)
+    (w .wrapping-add-u64 .ensures)
+    (rw (c .before .part .ensures) at (c .put .ensures))
+    (l .over-long .ensures)
 
 pub pass-over-spec : {M : Type 1} → statement M
 pass-over-spec =
@@ -59,5 +46,4 @@ pass-over-spec =
     over-long-requires
     part-requires
     put-requires
-    same-length
     returns-2)
