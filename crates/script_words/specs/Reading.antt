@@ -1,11 +1,11 @@
 -- What the functions that read a line ensure.
 use mathlib.Core.Path.{_≡_}
-use mathlib.Core.List.{List, [], _∷_}
+use mathlib.Core.List.{List, [], _∷_, _++_}
 use mathlib.Core.Option.{Option, none, some}
 use mathlib.Core.Bool.{Bool, true, false}
 use Prim.Native.Nat.{ℕ, _≤_, _<_}
 use lib.ListN.{length, getD, take, drop}
-use Rattle.script_words.specs.Words.{wordsOf}
+use Rattle.script_words.specs.Words.{wordsOf, numberOf, numbersOf}
 
 -- the words behind the word that ends where s begins
 unfoldable pub behindWord : List ℕ → List (List ℕ)
@@ -22,8 +22,15 @@ unfoldable pub orNone : Option ℕ → ℕ
 orNone none = 4_294_967_296
 orNone (some n) = n
 
--- the cells begin with the numbers, where there are any
-pub record NumbersRead (mosts : List ℕ) (numbers : Option (List ℕ)) (cells : List ℕ) (r : Bool) : Type 0 where
-  pub bad : r ≡ false → numbers ≡ none
-  pub good : r ≡ true → numbers ≡ some (take (length mosts) cells)
-  pub small : (i : ℕ) → r ≡ true → i < length mosts → getD cells i 0 ≤ getD mosts i 0
+-- the numbers in front of the first word that is missing or no number within its bound
+unfoldable pub leading : List ℕ → List (List ℕ) → List ℕ
+leading [] ws = []
+leading (m ∷ ms) [] = []
+leading (m ∷ ms) (w ∷ ws) = elim (numberOf m w) [ none ↦ [] | some n ↦ n ∷ leading ms ws ]
+
+-- a number for each word: the cells then begin with them. Cells keep what they had behind the numbers that were read.
+pub record NumbersRead (mosts : List ℕ) (words : List (List ℕ)) (cells cells′ : List ℕ) (r : Bool) : Type 0 where
+  pub bad : r ≡ false → numbersOf mosts words ≡ none
+  pub good : r ≡ true → numbersOf mosts words ≡ some (take (length mosts) cells′)
+  pub small : (i : ℕ) → r ≡ true → i < length mosts → getD cells′ i 0 ≤ getD mosts i 0
+  pub holds : cells′ ≡ leading mosts words ++ drop (length (leading mosts words)) cells

@@ -3,7 +3,7 @@ ghost use mathlib.Core.Path.{_≡_};
 ghost use Prim.Native.Nat.{_≤_};
 ghost use lib.ListN.{length, drop};
 ghost use Rattle.lists.specs.Puts.{Puts};
-ghost use Rattle.script_words.specs.Words.{numberOf, numbersOf};
+ghost use Rattle.script_words.specs.Words.{numberOf};
 ghost use Rattle.script_words.specs.Reading.{WordEnds, NumbersRead, behindWord, orNone};
 ghost use Rattle.script_words.specs.Lines.{inRow};
 use bytes_put::put;
@@ -55,7 +55,7 @@ fn number(word: &[u8], most: u32) -> u64
 // Reads the words behind the one that ends at a place: a number for each of mosts and at most it, and no word more.
 pub fn numbers(line: &[u8], end: usize, mosts: &[u32], out: &mut [u32]) -> bool
     requires { ⌜ (end ≤ length (now line)) × (length (now mosts) ≤ length (now out)) ⌝ }
-    ensures { λ r. ⌜ NumbersRead (now (mosts .entry)) (numbersOf (now (mosts .entry)) (behindWord (drop end (now (line .entry))))) (now (out .exit)) r ⌝ }
+    ensures { λ r. ⌜ NumbersRead (now (mosts .entry)) (behindWord (drop end (now (line .entry)))) (now (out .entry)) (now (out .exit)) r ⌝ }
 {
     let mut at = end;
     let mut i = 0;

@@ -1,7 +1,7 @@
 -- A command by the words behind its name. Assumes nothing.
 use mathlib.Core.Path.{_≡_, refl, sym, ap, _∙_}
 use mathlib.Core.List.{List, [], _∷_}
-use mathlib.Core.Option.{Option, none}
+use mathlib.Core.Option.{none}
 use mathlib.Core.Bool.{Bool, true, false, not}
 use Prim.Native.Nat.{ℕ, suc, _+_, _≤_, _<_}
 use native.Mathlib.Omega.{arith}
@@ -88,15 +88,15 @@ few kind.Reading = omega arith
 few kind.Out = omega arith
 few kind.SetWatchdog = omega arith
 
-module _ {ms cells : List ℕ} {r : Bool} (k : Kind) (bounds : ms ≡ mosts k) where
-  pub numbers-bad : (ws : List (List ℕ)) → NumbersRead ms (numbersOf ms ws) cells r → not r ≡ true → Bad ≡ numbered k ws
+module _ {ms cells₀ cells : List ℕ} {r : Bool} (k : Kind) (bounds : ms ≡ mosts k) where
+  pub numbers-bad : (ws : List (List ℕ)) → NumbersRead ms ws cells₀ cells r → not r ≡ true → Bad ≡ numbered k ws
   unfolding numbered
   numbers-bad ws f e = rw ((rw bounds at f) .bad (not-true r e), numbered)
 
   module _ {j : Kind} (is : k ≡ j) where
-    pub in-bound : {o : Option (List ℕ)} → NumbersRead ms o cells r → not r ≡ false → (i : ℕ) → i < length (mosts j) → getD cells i 0 ≤ getD (mosts j) i 0
+    pub in-bound : {ws : List (List ℕ)} → NumbersRead ms ws cells₀ cells r → not r ≡ false → (i : ℕ) → i < length (mosts j) → getD cells i 0 ≤ getD (mosts j) i 0
     in-bound f e i h = (rw (bounds ∙ ap mosts is) at f) .small i (not-false r e) h
 
-    pub numbers-good : (ws : List (List ℕ)) → NumbersRead ms (numbersOf ms ws) cells r → not r ≡ false → made j cells ≡ numbered k ws
+    pub numbers-good : (ws : List (List ℕ)) → NumbersRead ms ws cells₀ cells r → not r ≡ false → made j cells ≡ numbered k ws
     unfolding numbered
     numbers-good ws f e = ap (λ (x : Kind). made x cells) (sym is) ∙ sym (made-of-read k cells) ∙ rw ((rw bounds at f) .good (not-false r e), numbered)

@@ -18,7 +18,7 @@ abbrev μ-loop : tie.MeasureT-loop
 μ-loop line end mosts out₀ at₀ i₀ out at i = length mosts - i
 
 loop-holds : tie.Need-loop-holds Inv-loop μ-loop
-loop-holds c = let a = c .before .before .before .args in read-begin (a .mosts .now) (a .line .now) (a .out .now) (a .end) (search needs)
+loop-holds c = let a = c .before .before .before .args in read-begin (a .mosts .now) (a .line .now) (a .out .now) (a .end) (search needs) (search needs)
 
 same-length : tie.Need-same-length Inv-loop μ-loop
 same-length c = search needs
@@ -88,7 +88,7 @@ loop-again c =
     let l = w .before .before .before .before in
     let s = l .before .before .before .before .args .line .now in
     read-next (l .loop .inv) (search needs) (search needs) _ (from-to-end (l .loop .at + 1) s) (w .word-length .result) (c .before .number .result)
-    (w .word-length .ensures) (c .before .number .ensures) (c .if2 .left) (search needs)
+    (w .word-length .ensures) (c .before .number .ensures) (c .if2 .left)
 
 same-length-3 : tie.Need-same-length-3 Inv-loop μ-loop
 same-length-3 c = search needs
