@@ -12,7 +12,7 @@ ghost use Rattle.rules_box.specs.Refuse.{recordSize};
 ghost use Rattle.rules_box.specs.Records.{recordBytes, plain, full, watchdogRecord, sequenceRecord};
 ghost use Rattle.rules_box.specs.laws.Fit.{FitRequest};
 ghost use Rattle.memory_run.specs.Run.{wordOf};
-ghost use Rattle.run_records.specs.Bytes.{bytesOf};
+ghost use Rattle.run_records.specs.Bytes.{bytesOf, filled};
 use bytes_put::put;
 use bytes_put::put_bytes;
 use rules_box::Watchdog;
@@ -51,11 +51,11 @@ fn put_eight(out: &mut [u8], at: usize, word: u64) -> usize
 }
 
 // "kinds 4 to 6 fill all": of the request of a word. The word has the record's bytes; its own kind and its least span make room for the
-// record's kind and v.
+// record's kind and v. What is put of a word that is of no request is said by its bytes.
 pub fn put_full(out: &mut [u8], at: usize, kind: u8, v: u8, word: u64, clock: u32) -> usize
     requires { ⌜ at + recordSize ≤ length (now out) ⌝ }
     ensures { λ r. ⌜ ((o : Owner) (x : Request) → o .initiator < 256 → FitRequest x → word ≡ wordOf o x → Puts (now (out .entry)) at (recordBytes clock (full kind (o .initiator) v x)) (now (out .exit)) r)
-        × (r ≡ at + recordSize) ⌝ }
+        × (r ≡ at + recordSize) × Put (now (out .entry)) at (bytesOf (filled kind v word)) (now (out .exit)) r ⌝ }
 {
     let bare = word - word / 128 % 2 * 128 - word / 16_777_216 % 256 * 16_777_216;
     let head = kind as u64 + v as u64 * 16_777_216;

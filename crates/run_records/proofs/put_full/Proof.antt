@@ -1,6 +1,6 @@
 -- `put_full` meets its contract: the word has the record's bytes, and the kind and value that are added fill the rest. Assumes nothing.
 use native.Mathlib.Omega.{arith}
-use Rattle.run_records.specs.Bytes.{bytesOf}
+use Rattle.run_records.specs.Bytes.{bytesOf, filled}
 use Rattle.run_records.proofs.Laws.{full-puts}
 use borrow.Author.Needs.{needs}
 use Rattle.run_records.proofs.put_full.Statement.{statement}
@@ -34,13 +34,13 @@ same-length : tie.Need-same-length
 same-length c = search needs
 
 returns : tie.Need-returns
-unfolding bytesOf
+unfolding bytesOf filled
 returns c =
     let b = c .before .before .before in
     let a = b .before .before .before .args in
     let w = b .wrapping-add-u64 in
     let p = c .before .before .put-eight .ensures in
-    (λ o x i< f is. full-puts (a .clock) (a .kind) o (a .v) (a .word) (w .result) x i< f is (search needs) (search needs) (w .ensures) p, p .next)
+    (λ o x i< f is. full-puts (a .clock) (a .kind) o (a .v) (a .word) (w .result) x i< f is (search needs) (search needs) (w .ensures) p, p .next, rw (w .ensures) at p)
 
 pub put-full-spec : {M : Type 1} → statement M
 put-full-spec =
