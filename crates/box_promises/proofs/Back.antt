@@ -24,7 +24,7 @@ use Rattle.rules_box.specs.State.{Box, holding, loaded, isAccepted, thePlan}
 use Rattle.lists.specs.Search.{isSome}
 use Rattle.lists.specs.Rows.{firstOf}
 use Rattle.box_calls.specs.Calls.{Memory, withRun, LoadLeaves}
-use Rattle.box_promises.specs.Promises.{HeldBy, WriteLeaves, SamePlanBack, WrittenOut, WritesThePlanOut}
+use Rattle.box_promises.specs.Promises.{HeldBy, WriteLeaves, SamePlanBack, PlanWrittenOut, WritesThePlanOut}
 use Rattle.box_promises.proofs.Held.{OfFile, reached-file, file-ordered, held}
 
 -- nothing is written where there is no plan, or no room for it
@@ -122,7 +122,7 @@ module _ (back : WrittenOutComesBack) (m : Memory) (b : Box) (h : HeldBy m b) (o
           let fits : length (written p) ≤ length out = omega (arith, (comes-back p f) .most, ap (λ (q : Plan). length (written q)) (f .is)) in
           (length (written p), says .0 ∙ ap (copyAnswer (length out)) is ∙ answers-size p out fits)
 
-  pub written-out : WrittenOut m b out answer out′
+  pub written-out : PlanWrittenOut m b out answer out′
   written-out = record { answer = says .0; buffer = says .1; enough = room-enough; back = bytes-back }
 
 pub writes-the-plan-out : AcceptedIsSound → WrittenOutComesBack → WritesThePlanOut

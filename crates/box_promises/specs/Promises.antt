@@ -117,7 +117,7 @@ pub record SamePlanBack (m : Memory) (b : Box) (bytes : List ℕ) : Type 0 where
   pub loads : (v : Verdict) (m′ : Memory) (w : Watchdog) → LoadLeaves bytes v m′ w → (number v ≡ 0) × (m′ ≡ withRun m (m′ .run) (m′ .last))
   pub held : HoldsPlanOf bytes (m .sets) (m .ends) (m .rows) (m .reach) (m .paths) (m .spans) (m .aims) (m .numbers)
 
-pub record WrittenOut (m : Memory) (b : Box) (out : List ℕ) (answer′ : Copied) (out′ : List ℕ) : Type 0 where
+pub record PlanWrittenOut (m : Memory) (b : Box) (out : List ℕ) (answer′ : Copied) (out′ : List ℕ) : Type 0 where
   pub answer : answer′ ≡ copyAnswer (length out) (b .plan)
   pub buffer : out′ ≡ copied (b .plan) out
   pub enough : b .plan ≢ none → 13_643 ≤ length out → (size : ℕ) × (answer′ ≡ Written size)
@@ -125,7 +125,7 @@ pub record WrittenOut (m : Memory) (b : Box) (out : List ℕ) (answer′ : Copie
 
 unfoldable pub WritesThePlanOut : Type 0
 WritesThePlanOut =
-    (m : Memory) (b : Box) → Came m b → (out out′ : List ℕ) (answer : Copied) → WriteLeaves m out answer out′ → WrittenOut m b out answer out′
+    (m : Memory) (b : Box) → Came m b → (out out′ : List ℕ) (answer : Copied) → WriteLeaves m out answer out′ → PlanWrittenOut m b out answer out′
 
 -- An event answers what the rules say of the box in memory and of the five numbers as lent, and leaves what they say.
 pub record OutcomeOf (o : Outcome) (before : Lent) (e : Event) (answer′ : Answer) (after : Lent) : Type 0 where
