@@ -2,7 +2,6 @@
 use mathlib.Core.Path.{_≡_}
 use Prim.Native.Nat.{ℕ}
 use mathlib.Core.List.{List}
-use mathlib.Core.Option.{Option, none, some}
 use mathlib.Core.Bool.{cond}
 use lib.Dec.{eqb}
 use Rattle.rules_plan.specs.Plan.{Plan, blank}
@@ -11,13 +10,9 @@ use Rattle.rules_plan.specs.Judge.{judge}
 use Rattle.rules_plan.specs.Canon.{given, planOf}
 use Rattle.memory_plan.specs.Memory.{Holds}
 
--- in the file's order
+-- in the file's order, as memory is filled
 unfoldable pub planLeft : List ℕ → Plan
 planLeft s = cond (eqb (number (judge s)) 0) (given s) blank
-
--- in canonical order
-unfoldable pub planKept : List ℕ → Option Plan
-planKept s = cond (eqb (number (judge s)) 0) (some (planOf s)) none
 
 -- the file is accepted, and memory is that of its plan, every number of it
 abbrev pub HoldsPlanOf : (file sets ends rows reach paths spans aims numbers : List ℕ) → Type 0

@@ -1,3 +1,2 @@
 // A plan in memory: cleared, and loaded from a file.
-pub mod back;
 pub mod load;
