@@ -43,10 +43,9 @@ pub fn least_span(length: u16) -> u8
     if 4096 < length {
         return 17;
     }
-    if length == 0 {
-        return 1;
-    }
-    ((length - 1) / 256 + 1) as u8
+    // Length 0 needs a slot too, and has no branch of its own, since what follows would wait for it.
+    let empty = length == 0;
+    ((length + 255) / 256) as u8 + empty as u8
 }
 
 // Whether an entry with these targets and this span permits a transaction to the target that needs so long a span.

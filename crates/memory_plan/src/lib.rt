@@ -13,5 +13,4 @@ pub fn at_most(count: u32, places: usize) -> usize
 pub mod entry;
 pub mod interval;
 pub mod layout;
-pub mod row;
 pub mod rows;

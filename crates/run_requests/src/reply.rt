@@ -10,7 +10,7 @@ ghost use Rattle.memory_run.specs.Memory.{Finds, Answers};
 use crate::ending::end_row;
 use crate::no_row::no_row;
 use memory_plan::layout::*;
-use memory_plan::row::row_for;
+use memory_plan::rows::first_row;
 use memory_run::layout::*;
 use rules_box::Answer;
 
@@ -26,8 +26,12 @@ pub fn reply(
     ensures { λ r. ⌜ ((b : Box) (spans aims last : List ℕ) → Finds b (now (rows .entry)) spans aims (now (numbers .entry)) (now (run .entry)) last →
         (room : ℕ) (w : Watchdog) → Answers (rules.step room b w (Reply initiator number status)) r (now (run .exit)) last) ⌝ }
 {
-    let row = row_for(rows, numbers, initiator);
+    // Two branches, as in a request.
+    let row = first_row(rows, initiator);
     if ROWS <= row {
+        return no_row(numbers);
+    }
+    if numbers[INITIATORS] <= row as u32 {
         return no_row(numbers);
     }
     end_row(&mut run[row * ROW..row * ROW + ROW], number, status)

@@ -45,7 +45,7 @@ pub fn request(
     ensures { λ r. ⌜ ((b : Box) (last : List ℕ) → Finds b (now (rows .entry)) (now (spans .entry)) (now (aims .entry)) (now (numbers .entry)) (now (run .entry)) last →
         (room : ℕ) (w : Watchdog) → Answers (rules.step room b w (Request initiator target kind length)) r (now (run .exit)) last) ⌝ }
 {
-    // The tests of row_for stand here: a branch is foretold, where all that follows would wait for the row that it answers.
+    // A branch is foretold, where all that follows would wait for a row that is worked out.
     let row = first_row(rows, initiator);
     if ROWS <= row {
         return no_row(numbers);

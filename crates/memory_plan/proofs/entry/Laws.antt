@@ -1,11 +1,13 @@
 -- What the cells tell of the entries of a sound plan, and how long a span a transaction needs.
 use mathlib.Core.Path.{_≡_, refl, sym, ap, _∙_}
-use mathlib.Core.Logic.{_≢_}
 use mathlib.Core.List.{List}
 use mathlib.Core.Option.{Option, none, some}
+use mathlib.Core.Bool.{Bool, true, false}
 use Prim.Native.Nat.{ℕ, _+_, _-_, _*_, _/_, _≤_, _<_}
 use native.Mathlib.Omega.{arith}
-use borrow.Author.Tests.{le-leb, lt-leb}
+use lib.Dec.{eqb}
+use mir.Val.{boolByte}
+use borrow.Author.Tests.{le-leb, lt-leb, eqb-true, eqb-false}
 use Rattle.lists.specs.Place.{atPlace}
 use Rattle.lists.specs.laws.At.{at-none}
 use Rattle.rules_plan.specs.Plan.{nth, Entry, Plan}
@@ -59,12 +61,24 @@ module _ (p : Plan) (i t n : ℕ) where
   unfolding fitsIn
   least-beyond h = least-span-none p i t n (λ m low high. lt-leb n (256 * m) (omega arith))
 
-  pub least-empty : n ≡ 0 → 1 ≡ leastSpan p i t n
+  pub least-within : n ≤ 4096 → (n + 255) / 256 + boolByte (eqb n 0) ≡ leastSpan p i t n
   unfolding fitsIn
-  least-empty h = least-span-is p i t n 1 (omega arith) (omega arith) (le-leb n (256 * 1) (omega arith)) (λ m low high. absurd (omega arith))
+  least-within h = go (eqb n 0) refl
+    where
+      go : (x : Bool) → eqb n 0 ≡ x → (n + 255) / 256 + boolByte x ≡ leastSpan p i t n
+      go true e =
+          let z = eqb-true n 0 e in
+          let one : (n + 255) / 256 + 1 ≡ 1 = omega arith in
+          one ∙ least-span-is p i t n 1 (omega arith) (omega arith) (le-leb n (256 * 1) (omega arith)) (λ m low high. absurd (omega arith))
+      go false e =
+          let d = eqb-false n 0 e in
+          let k = (n + 255) / 256 in
+          let same : k + 0 ≡ k = omega arith in
+          same ∙ least-span-is p i t n k (omega arith) (omega arith) (le-leb n (256 * k) (omega arith)) (λ m low high. lt-leb n (256 * m) (omega arith))
 
-  pub least-of : n ≤ 4096 → n ≢ 0 → (n - 1) / 256 + 1 ≡ leastSpan p i t n
-  unfolding fitsIn
-  least-of h d =
-      let k = (n - 1) / 256 + 1 in
-      least-span-is p i t n k (omega arith) (omega arith) (le-leb n (256 * k) (omega arith)) (λ m low high. lt-leb n (256 * m) (omega arith))
+pub one-more : (n : ℕ) → boolByte (eqb n 0) ≤ 1
+one-more n = go (eqb n 0)
+  where
+    go : (x : Bool) → boolByte x ≤ 1
+    go true = omega arith
+    go false = omega arith
