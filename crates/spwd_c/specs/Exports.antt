@@ -5,14 +5,12 @@ use mathlib.Core.Logic.{_↔_}
 use mathlib.Core.Bool.{Bool, true, false}
 use Prim.Native.Nat.{ℕ, _≤_}
 use mathlib.Core.List.{List, _++_}
-use mathlib.Core.Option.{Option}
 use lib.ListN.{length, drop}
-use Rattle.rules_plan.specs.Plan.{Plan}
+use Rattle.rules_plan.specs.declared.Copied.{Copied}
 use Rattle.rules_plan.specs.Judge.{judge}
-use Rattle.rules_plan.specs.Copy.{copyAnswer, copied}
 use Rattle.rules_plan.specs.Print as print
 use Rattle.memory_plan.specs.Memory as plan
-use Rattle.memory_plan.specs.PlanHeld.{PlanHeld}
+use Rattle.out_plan.specs.Out.{WritesOut}
 use Rattle.load_plan.specs.Load.{planLeft, HoldsPlanOf}
 use Rattle.rules_box.specs.declared.Event.the-variants.{TimeCode, Request, Reply, Reading}
 use Rattle.rules_box.specs.declared.Answer.{Answer}
@@ -69,11 +67,11 @@ pub record Readings (numbers : List ℕ) (w : Watchdog) (clock : ℕ) (w′ : Wa
   pub steps : EventAnswered answer′ λ a.
       (rows spans aims run last records : List ℕ) → Steps rows spans aims numbers run last w records (Reading clock) a run last w′ records
 
--- `spwd_c_write_out`. It is not lent `reach`, which it need not read.
-abbrev pub WritesOut : (sets ends rows paths spans aims numbers out out′ answer′ : List ℕ) → Type 0
-WritesOut sets ends rows paths spans aims numbers out out′ answer′ =
-    (o : Option Plan) (reach : List ℕ) → PlanHeld o sets ends rows reach paths spans aims numbers
-    → (answer′ ≡ sizedNumbers (copyAnswer (length out) o)) × (out′ ≡ copied o out)
+-- `spwd_c_write_out`: document 01's two numbers of the answer of writing out
+pub record OutWritten (sets ends rows paths spans aims numbers out out′ answer′ : List ℕ) : Type 0 where
+  pub answer : Copied
+  pub listed-as : answer′ ≡ sizedNumbers answer
+  pub does : WritesOut sets ends rows paths spans aims numbers out answer out′
 
 -- `spwd_c_print`: the line of the verdict of these numbers; those of a verdict on a file are of no other verdict
 pub record Prints (verdict line line′ : List ℕ) (r : ℕ) : Type 0 where

@@ -1,5 +1,5 @@
 // The plan as a file again and the verdict as a line, as C calls for them.
-ghost use Rattle.spwd_c.specs.Exports.{Prints, WritesOut};
+ghost use Rattle.spwd_c.specs.Exports.{Prints, OutWritten};
 use c_numbers::copied::sized_numbers;
 use c_numbers::verdict::verdict_of;
 use memory_plan::layout::*;
@@ -19,7 +19,7 @@ pub extern "C" fn spwd_c_write_out(
     out: &mut [u8],
     answer: &mut [u32; 2],
 )
-    ensures { λ _. ⌜ WritesOut (now (sets .entry)) (now (ends .entry)) (now (rows .entry)) (now (paths .entry)) (now (spans .entry)) (now (aims .entry)) (now (numbers .entry)) (now (out .entry)) (now (out .exit)) (now (answer .exit)) ⌝ }
+    ensures { λ _. ⌜ OutWritten (now (sets .entry)) (now (ends .entry)) (now (rows .entry)) (now (paths .entry)) (now (spans .entry)) (now (aims .entry)) (now (numbers .entry)) (now (out .entry)) (now (out .exit)) (now (answer .exit)) ⌝ }
 {
     let copied = write_out(sets, ends, rows, paths, spans, aims, numbers, out);
     *answer = sized_numbers(copied);

@@ -1,6 +1,4 @@
 -- `spwd_c::out::spwd_c_write_out` meets its contract. Assumes nothing.
-use mathlib.Core.Path.{ap, _∙_}
-use Rattle.c_numbers.specs.Numbers.{sizedNumbers}
 use borrow.Author.Needs.{needs}
 use Rattle.spwd_c.proofs.out.spwd_c_write_out.Statement.{statement}
 use Rattle.spwd_c.proofs.out.spwd_c_write_out.Tie as tie
@@ -15,9 +13,7 @@ same-length : tie.Need-same-length
 same-length c = search needs
 
 returns : tie.Need-returns
-returns c = λ o reach held.
-    let w = c .before .before .before .write-out .ensures o reach held in
-    (c .sized-numbers .ensures ∙ ap sizedNumbers (w .0), w .1)
+returns c = let w = c .before .before .before .write-out in record { answer = w .result; listed-as = c .sized-numbers .ensures; does = w .ensures }
 
 pub spwd-c-write-out-spec : {M : Type 1} → statement M
 spwd-c-write-out-spec =
