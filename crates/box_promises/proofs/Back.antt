@@ -14,10 +14,12 @@ use Rattle.rules_plan.specs.declared.Copied.{Copied}
 use Rattle.rules_plan.specs.declared.Copied.the-variants.{Written, NotWritten}
 use Rattle.rules_plan.specs.Plan.{Plan}
 use Rattle.rules_plan.specs.Verdict.{number}
-use Rattle.rules_plan.specs.Judge.{judge}
+use Rattle.rules_plan.specs.Judge.{counts, judge}
 use Rattle.rules_plan.specs.Canon.{written, planOf}
+use Rattle.rules_plan.specs.Good.{Good}
 use Rattle.rules_plan.specs.Copy.{copyRows, copyRefusal, copyAnswer, copied}
 use Rattle.rules_plan.specs.Promises.{AcceptedIsSound, ComesBack, WrittenOutComesBack}
+use Rattle.rules_plan.specs.laws.Reads.{judge-back, good-accepted}
 use Rattle.rules_plan.specs.laws.Copies.{no-room, answers-size, puts-bytes}
 use Rattle.rules_box.specs.declared.Watchdog.{Watchdog}
 use Rattle.rules_box.specs.State.{Box, holding, loaded, isAccepted, thePlan}
@@ -25,7 +27,7 @@ use Rattle.lists.specs.Search.{isSome}
 use Rattle.lists.specs.Rows.{firstOf}
 use Rattle.box_calls.specs.Calls.{Memory, withRun, LoadLeaves}
 use Rattle.box_promises.specs.Promises.{HeldBy, WriteLeaves, SamePlanBack, PlanWrittenOut, WritesThePlanOut}
-use Rattle.box_promises.proofs.Held.{OfFile, reached-file, file-ordered, held}
+use Rattle.box_promises.proofs.Held.{OfFile, reached-file, file-ordered, reached-good, held}
 
 -- nothing is written where there is no plan, or no room for it
 none-written : (room size : ℕ) → copyAnswer room none ≡ Written size → ⊥
@@ -60,8 +62,11 @@ module _ (m : Memory) (b : Box) (h : HeldBy m b) (p : Plan) (is : b .plan ≡ so
   unfolding thePlan
   the-plan = rw is
 
+  good : Good p
+  good = reached-good b (h .reached) p is
+
   verdict : number (judge (written p)) ≡ 0
-  verdict = ap (λ (q : Plan). number (judge (written q))) (f .is) ∙ ap number (back .verdict) ∙ f .accepted
+  verdict = good-accepted p good
 
   same-plan : planOf (written p) ≡ p
   same-plan = ap (λ (q : Plan). planOf (written q)) (f .is) ∙ back .plan ∙ sym (f .is)
@@ -90,7 +95,7 @@ module _ (m : Memory) (b : Box) (h : HeldBy m b) (p : Plan) (is : b .plan ≡ so
   same-back = record {
     canonical-plan = rw the-plan (file-ordered p f);
     written-plan = ap written (sym the-plan);
-    loads = λ v m′ w l. (ap number (l .verdict) ∙ verdict, loads-same v m′ w l);
+    loads = λ v m′ w l. (l .verdict ∙ judge-back p good ∙ ap counts (sym the-plan), loads-same v m′ w l);
     held = (verdict, rw (same-plan, ← the-plan) (h .at .plan));
   }
 

@@ -16,7 +16,7 @@ use Rattle.rules_plan.specs.declared.Copied.the-variants.{Written}
 use Rattle.rules_plan.specs.Plan.{nth, two, Entry, Plan}
 use Rattle.rules_plan.specs.Meaning.{initiators, entryAt, uses}
 use Rattle.rules_plan.specs.Verdict.{number}
-use Rattle.rules_plan.specs.Judge.{judge}
+use Rattle.rules_plan.specs.Judge.{counts, judge}
 use Rattle.rules_plan.specs.Canon.{canonical, written, given, SamePlan}
 use Rattle.rules_plan.specs.Copy.{copyAnswer, copied}
 use Rattle.rules_plan.specs.Good.{Good}
@@ -109,12 +109,12 @@ SamePlanSameMemory =
 abbrev pub WriteLeaves : Memory → (out : List ℕ) → Copied → (out′ : List ℕ) → Type 0
 WriteLeaves m = WritesOut (m .sets) (m .ends) (m .rows) (m .paths) (m .spans) (m .aims) (m .numbers)
 
--- The bytes are those of the plan in canonical order; a load of them is accepted and leaves the very same plan memory; and `holds` says
--- true of them.
+-- The bytes are those of the plan in canonical order; a load of them is accepted with its counts and leaves the very same plan memory; and
+-- `holds` says true of them.
 pub record SamePlanBack (m : Memory) (b : Box) (bytes : List ℕ) : Type 0 where
   pub canonical-plan : canonical (thePlan b) ≡ thePlan b
   pub written-plan : bytes ≡ written (thePlan b)
-  pub loads : (v : Verdict) (m′ : Memory) (w : Watchdog) → LoadLeaves bytes v m′ w → (number v ≡ 0) × (m′ ≡ withRun m (m′ .run) (m′ .last))
+  pub loads : (v : Verdict) (m′ : Memory) (w : Watchdog) → LoadLeaves bytes v m′ w → (v ≡ counts (thePlan b)) × (m′ ≡ withRun m (m′ .run) (m′ .last))
   pub held : HoldsPlanOf bytes (m .sets) (m .ends) (m .rows) (m .reach) (m .paths) (m .spans) (m .aims) (m .numbers)
 
 pub record PlanWrittenOut (m : Memory) (b : Box) (out : List ℕ) (answer′ : Copied) (out′ : List ℕ) : Type 0 where
