@@ -27,7 +27,7 @@ promised p b = let ok = p .sound in record {
   links = links-never-shared ok (b .links);
   between = not-even-between ok (b .as-told);
   in-time = requests-start-in-time ok (b .in-time) (b .this-one);
-  entries = starts-only-at-entries ok (p .permits) (b .entries);
+  entries = starts-only-at-entries ok (b .entries);
   once = once-per-visit ok (b .once);
   live = live-by-record-only ok (b .live);
   ends = ends-by-reply-or-record ok (b .ends);

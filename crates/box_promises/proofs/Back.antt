@@ -46,11 +46,11 @@ room-there p room size e = go (decLt room (length (written p)))
     go (no h) = omega arith
 
 -- what is written of a plan is its bytes
+size-written : (p : Plan) (out : List ℕ) (size : ℕ) → copyAnswer (length out) (some p) ≡ Written size → length (written p) ≡ size
+size-written p out size e = let f = answers-size p out (room-there p (length out) size e) in cc
+
 bytes-written : (p : Plan) (out : List ℕ) (size : ℕ) → copyAnswer (length out) (some p) ≡ Written size → take size (copied (some p) out) ≡ written p
-bytes-written p out size e =
-    let room = room-there p (length out) size e in
-    let s : length (written p) ≡ size = let f = answers-size p out room in cc in
-    ap (take size) (puts-bytes p out room) ∙ take-at (written p) (drop (length (written p)) out) size s
+bytes-written p out size e = ap (take size) (puts-bytes p out (room-there p (length out) size e)) ∙ take-at (written p) (drop (length (written p)) out) size (size-written p out size e)
 
 -- a load of an accepted file puts its plan into the box
 loaded-plan : (file : List ℕ) → number (judge file) ≡ 0 → thePlan (loaded file) ≡ planOf file
@@ -117,7 +117,7 @@ module _ (back : WrittenOutComesBack) (m : Memory) (b : Box) (h : HeldBy m b) (o
           let bytes = bytes-written p out size (ap (copyAnswer (length out)) (sym is) ∙ sym (says .0) ∙ e) in
           rw (says .1 ∙ ap (λ (x : Option Plan). copied x out) is, bytes) (same-back m b h p is f (comes-back p f))
 
-  room-enough : b .plan ≢ none → 13_643 ≤ length out → (size : ℕ) × (answer ≡ Written size)
+  room-enough : b .plan ≢ none → 16_384 ≤ length out → (size : ℕ) × (answer ≡ Written size)
   room-enough some-plan room = go (b .plan) refl
     where
       go : (o : Option Plan) → b .plan ≡ o → (size : ℕ) × (answer ≡ Written size)
@@ -127,8 +127,20 @@ module _ (back : WrittenOutComesBack) (m : Memory) (b : Box) (h : HeldBy m b) (o
           let fits : length (written p) ≤ length out = omega (arith, (comes-back p f) .most, ap (λ (q : Plan). length (written q)) (f .is)) in
           (length (written p), says .0 ∙ ap (copyAnswer (length out)) is ∙ answers-size p out fits)
 
+  -- whatever accepted file the plan is of
+  as-its-file : (size : ℕ) → answer ≡ Written size → (file : List ℕ) → number (judge file) ≡ 0 → planOf file ≡ thePlan b → size ≡ length file
+  unfolding WrittenOutComesBack thePlan
+  as-its-file size e file ok same = go (b .plan) refl
+    where
+      go : (o : Option Plan) → b .plan ≡ o → size ≡ length file
+      go none is = absurd (none-written (length out) size (ap (copyAnswer (length out)) (sym is) ∙ sym (says .0) ∙ e))
+      go (some p) is =
+          let bytes = sym (size-written p out size (ap (copyAnswer (length out)) (sym is) ∙ sym (says .0) ∙ e)) in
+          let this : planOf file ≡ p = rw is at same in
+          bytes ∙ ap (λ (q : Plan). length (written q)) (sym this) ∙ (back file ok) .size
+
   pub written-out : PlanWrittenOut m b out answer out′
-  written-out = record { answer = says .0; buffer = says .1; enough = room-enough; back = bytes-back }
+  written-out = record { answer = says .0; buffer = says .1; enough = room-enough; as-long = as-its-file; back = bytes-back }
 
 pub writes-the-plan-out : AcceptedIsSound → WrittenOutComesBack → WritesThePlanOut
 unfolding WritesThePlanOut

@@ -14,9 +14,10 @@ use Rattle.lists.specs.laws.Search.{isIn-intro, keep-intro}
 use Rattle.lists.specs.laws.At.{at-member, at-within, member-at}
 use Rattle.bitsets.specs.Set.{member}
 use Rattle.rules_plan.specs.Plan.{nth, two}
-use Rattle.rules_plan.specs.Meaning.{initiators}
-use Rattle.rules_plan.specs.Promises.{AcceptedIsSound, PermitsAsWorded}
-use Rattle.rules_plan.specs.laws.Runs.{its-initiator, found-at}
+use Rattle.rules_plan.specs.Meaning.{initiators, fitsIn}
+use Rattle.rules_plan.specs.Promises.{AcceptedIsSound}
+use Rattle.rules_plan.specs.laws.Runs.{permits-fits, permits-target, its-initiator, found-at}
+use Rattle.memory_plan.specs.Spans.{fitsInWords}
 use Rattle.memory_plan.specs.laws.InRows.{span-cell, aim-cell}
 use Rattle.memory_plan.specs.laws.Entries.{entry-told}
 use Rattle.rules_box.specs.declared.Event.{Event}
@@ -54,9 +55,9 @@ module _ (ok : AcceptedIsSound) {before after : Lent} {answer : Answer} (b : Box
       let byte : (k : ℕ) → nth (recordAt (after .records) j) k ≡ nth (recordBytes (clockOf e) r) k = λ k. ap (λ (l : List ℕ). nth l k) bytes in
       record { what = r; place = at; bytes = bytes; start = true-both (eq-eqb (r .kind) 5 (sym (byte 0) ∙ five)) (eq-eqb (r .initiator) _ (sym (byte 1))) }
 
-pub starts-only-at-entries : AcceptedIsSound → PermitsAsWorded → box.StartsOnlyAtEntries → StartsOnlyAtEntries
-unfolding StartsOnlyAtEntries box.StartsOnlyAtEntries PermitsAsWorded recordBytes valueOf
-starts-only-at-entries ok permits only before after e answer b came s j low five =
+pub starts-only-at-entries : AcceptedIsSound → box.StartsOnlyAtEntries → StartsOnlyAtEntries
+unfolding StartsOnlyAtEntries box.StartsOnlyAtEntries recordBytes valueOf
+starts-only-at-entries ok only before after e answer b came s j low five =
     let h = held ok (before .memory) b came in
     let p = thePlan b in
     let sound = h .finds .fit .sound in
@@ -65,7 +66,8 @@ starts-only-at-entries ok permits only before after e answer b came s j low five
     let byte : (k : ℕ) → nth bytes k ≡ nth (recordBytes (clockOf e) (x .what)) k = λ k. ap (λ (l : List ℕ). nth l k) (x .bytes) in
     let (v, clock, is, a) = only b (length (before .records)) (before .five) e (nth bytes 1) (x .what) (at-member _ j (x .what) (x .place)) (x .start) in
     let (row, _, at) = member-at (initiators p) (a .entry .initiator) (its-initiator p sound (a .entry) (a .of-plan)) in
-    let (aimed, long) = (permits p (a .entry) (x .what .target) (x .what .length)) .0 (a .permitted) in
+    let aimed = permits-target p (a .entry) (x .what .target) (x .what .length) (a .permitted) in
+    let own = ((says (before .memory) b h) .row row (nth bytes 1)) .1 (at ∙ ap some (a .own)) in
     let value : nth bytes 3 ≡ v % 64 = byte 3 ∙ a .value in
     let slot : nth bytes 3 ≡ a .entry .slot = value ∙ sym (a .here) in
     let eight : row < 8 = omega (arith, at-within (initiators p) row (a .entry .initiator) at, sound .eight) in
@@ -81,10 +83,18 @@ starts-only-at-entries ok permits only before after e answer b came s j low five
       in-sequence = ((says (before .memory) b h) .in-sequence v) .1 (a .in-sequence);
       value = value;
       row = row;
-      own = ((says (before .memory) b h) .row row (nth bytes 1)) .1 (at ∙ ap some (a .own));
+      own = own;
       stands = stands;
       aims = ap (λ (t : ℕ). member t (nth (before .memory .aims) (64 * row + nth bytes 3))) (byte 2) ∙ sym (told .targets (x .what .target)) ∙ isIn-intro (x .what .target) (a .entry .targets) aimed;
-      long = omega (arith, byte 6, byte 7, long, told .span);
+      long =
+          let n = before .memory .numbers in
+          let span = nth (before .memory .spans) (64 * row + nth bytes 3) in
+          let t = x .what .target in
+          let size : two bytes 6 ≡ x .what .length = omega (arith, byte 6, byte 7) in
+          ap (λ (u : ℕ). fitsInWords n row u (two bytes 6) span) (byte 2) ∙ ap (λ (k : ℕ). fitsInWords n row t k span) size
+          ∙ ap (fitsInWords n row t (x .what .length)) (sym (told .span))
+          ∙ (says (before .memory) b h) .fits row (nth bytes 1) t (x .what .length) (a .entry .span) own (sound .targets (a .entry) (a .of-plan) t aimed)
+          ∙ ap (λ (i : ℕ). fitsIn p i t (x .what .length) (a .entry .span)) (sym (a .own)) ∙ permits-fits p (a .entry) t (x .what .length) (a .permitted);
     }
 
 -- two places of a list with at most one element that passes

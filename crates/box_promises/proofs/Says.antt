@@ -9,9 +9,11 @@ use native.Mathlib.Omega.{arith}
 use borrow.Author.Tests.{eqb-true, eq-eqb}
 use Rattle.lists.specs.Place.{atPlace}
 use Rattle.rules_plan.specs.Plan.{nth, Entry, Plan}
-use Rattle.rules_plan.specs.Meaning.{initiators, entryAt}
+use Rattle.rules_plan.specs.Meaning.{initiators, fitsIn, entryAt}
 use Rattle.rules_plan.specs.Promises.{AcceptedIsSound}
 use Rattle.rules_plan.specs.laws.Sound.{Sound}
+use Rattle.memory_plan.specs.Spans.{fitsInWords}
+use Rattle.memory_plan.specs.laws.Costs.{fits-told}
 use Rattle.memory_plan.specs.laws.Entries.{spanRead, targetsRead, entry-told, entry-none}
 use Rattle.memory_plan.specs.laws.InRows.{span-cell, aim-cell}
 use Rattle.rules_box.specs.State.{Box, thePlan}
@@ -78,6 +80,10 @@ entry-says m b h r i v own low = go (entryAt (p .entries) i v) refl
         let (stands, told) = entry-told p sound r i at v (spanIn m r v) span x e (aimsIn m r v) aims in
         rw (e, EntrySays) (stands, sym (told .span), λ t. sym (told .targets t))
 
+-- how long a transaction may be
+fits-says : (m : Memory) (b : Box) → HeldBy m b → (r i t n k : ℕ) → RowOf m r i → t < 64 → fitsInWords (m .numbers) r t n k ≡ fitsIn (thePlan b) i t n k
+fits-says m b h r i t n k own low = fits-told (thePlan b) _ (m .numbers) (h .at .plan .numbers) (h .finds .fit .sound) r i t (row-of m b h r i (own .low) (own .is)) low n k
+
 pub says : (m : Memory) (b : Box) → HeldBy m b → Says m b
 says m b h = record {
   row = row-says m b h;
@@ -88,6 +94,7 @@ says m b h = record {
   unused = unused-says m b h;
   entry = entry-says m b h;
   path = path-says m b h;
+  fits = fits-says m b h;
   in-sequence = λ byte. (next-there m b h byte, next-back m b h byte);
 }
 

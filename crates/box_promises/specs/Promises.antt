@@ -14,10 +14,10 @@ use Rattle.rules_plan.specs.declared.Verdict.{Verdict}
 use Rattle.rules_plan.specs.declared.Copied.{Copied}
 use Rattle.rules_plan.specs.declared.Copied.the-variants.{Written}
 use Rattle.rules_plan.specs.Plan.{nth, two, Entry, Plan}
-use Rattle.rules_plan.specs.Meaning.{initiators, entryAt, uses}
+use Rattle.rules_plan.specs.Meaning.{initiators, fitsIn, entryAt, uses}
 use Rattle.rules_plan.specs.Verdict.{number}
 use Rattle.rules_plan.specs.Judge.{counts, judge}
-use Rattle.rules_plan.specs.Canon.{canonical, written, given, SamePlan}
+use Rattle.rules_plan.specs.Canon.{canonical, written, given, planOf, SamePlan}
 use Rattle.rules_plan.specs.Copy.{copyAnswer, copied}
 use Rattle.rules_plan.specs.Good.{Good}
 use Rattle.rules_plan.specs.Words.{Gets}
@@ -33,6 +33,7 @@ use Rattle.rules_box.specs.Records.{recordBytes, recorded, full}
 use Rattle.rules_box.specs.Step.{Outcome, step, clockOf}
 use Rattle.rules_box.specs.History.{Reached}
 use Rattle.memory_plan.specs.PlanHeld.{PlanHeld}
+use Rattle.memory_plan.specs.Spans.{fitsInWords}
 use Rattle.memory_run.specs.Memory.{Finds}
 use Rattle.load_plan.specs.Load.{HoldsPlanOf}
 use Rattle.out_plan.specs.Out.{WritesOut}
@@ -51,7 +52,7 @@ unfoldable pub HoldsTheBox : Type 0
 HoldsTheBox = (m : Memory) (b : Box) → Came m b → HeldBy m b
 
 -- The words and bytes that demand 3 speaks of say what the rules say: which initiators there are, who waits with what, what is live and
--- for how long, which entry stands where, where a path leads, which time-code is in sequence.
+-- for how long, which entry stands where, where a path leads, how long a transaction may be, which time-code is in sequence.
 unfoldable pub EntrySays : (span aims : ℕ) → Option Entry → Type 0
 EntrySays span′ aims none = span′ ≡ 0
 EntrySays span′ aims (some e) = (span′ ≢ 0) × (span′ ≡ e .span) × ((t : ℕ) → member t aims ≡ isIn t (e .targets))
@@ -65,6 +66,7 @@ pub record Says (m : Memory) (b : Box) : Type 0 where
   pub unused : (r : ℕ) → nth (m .numbers) 2 ≤ r → r < 8 → liveIn m r ≡ none
   pub entry : (r i v : ℕ) → RowOf m r i → v < 64 → EntrySays (spanIn m r v) (aimsIn m r v) (entryAt ((thePlan b) .entries) i v)
   pub path : (i t l : ℕ) → pathHas m i t l ≡ uses (thePlan b) i t l
+  pub fits : (r i t n k : ℕ) → RowOf m r i → t < 64 → fitsInWords (m .numbers) r t n k ≡ fitsIn (thePlan b) i t n k
   pub in-sequence : (byte : ℕ) → InSequence m byte ↔ (inSequence (b .last) byte ≡ true)
 
 unfoldable pub WordsOfTheBox : Type 0
@@ -105,7 +107,7 @@ SamePlanSameMemory =
     number v ≡ 0 → number v′ ≡ 0 → SamePlan (given file) (given file′) ↔ (m ≡ m′)
 
 -- "A plan written out and read back is the same plan", after any calls. Writing out answers and puts what the rules say of the box's plan,
--- and room for 13,643 bytes is always enough.
+-- and room for 16,384 bytes is always enough: "a written plan is as long as its file, at most 16,384".
 abbrev pub WriteLeaves : Memory → (out : List ℕ) → Copied → (out′ : List ℕ) → Type 0
 WriteLeaves m = WritesOut (m .sets) (m .ends) (m .rows) (m .paths) (m .spans) (m .aims) (m .numbers)
 
@@ -120,7 +122,8 @@ pub record SamePlanBack (m : Memory) (b : Box) (bytes : List ℕ) : Type 0 where
 pub record PlanWrittenOut (m : Memory) (b : Box) (out : List ℕ) (answer′ : Copied) (out′ : List ℕ) : Type 0 where
   pub answer : answer′ ≡ copyAnswer (length out) (b .plan)
   pub buffer : out′ ≡ copied (b .plan) out
-  pub enough : b .plan ≢ none → 13_643 ≤ length out → (size : ℕ) × (answer′ ≡ Written size)
+  pub enough : b .plan ≢ none → 16_384 ≤ length out → (size : ℕ) × (answer′ ≡ Written size)
+  pub as-long : (size : ℕ) → answer′ ≡ Written size → (file : List ℕ) → number (judge file) ≡ 0 → planOf file ≡ thePlan b → size ≡ length file
   pub back : (size : ℕ) → answer′ ≡ Written size → SamePlanBack m b (take size out′)
 
 unfoldable pub WritesThePlanOut : Type 0
@@ -199,7 +202,7 @@ RequestsStartInTime =
     StartsInTime before after i (state.request t k n transaction)
 
 -- Demand 3, entries. "Nobody starts outside its entries": a record of kind 5 is written at a time-code in sequence, and in the row of its
--- initiator an entry stands at the value, with the target among its targets and 256 × span at least the length.
+-- initiator an entry stands at the value, with the target among its targets, and the length is one that its span permits.
 pub record AtAnEntry (m : Memory) (e : Event) (bytes : List ℕ) : Type 0 where
   pub byte : ℕ
   pub clock : ℕ
@@ -210,7 +213,7 @@ pub record AtAnEntry (m : Memory) (e : Event) (bytes : List ℕ) : Type 0 where
   pub own : RowOf m row (nth bytes 1)
   pub stands : spanIn m row (nth bytes 3) ≢ 0
   pub aims : member (nth bytes 2) (aimsIn m row (nth bytes 3)) ≡ true
-  pub long : two bytes 6 ≤ 256 * spanIn m row (nth bytes 3)
+  pub long : fitsInWords (m .numbers) row (nth bytes 2) (two bytes 6) (spanIn m row (nth bytes 3)) ≡ true
 
 unfoldable pub StartsOnlyAtEntries : Type 0
 StartsOnlyAtEntries =

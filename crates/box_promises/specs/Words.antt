@@ -28,7 +28,7 @@ blankMemory = record {
   paths = replicate 1408 0;
   spans = replicate 512 0;
   aims = replicate 512 0;
-  numbers = replicate 6 0;
+  numbers = replicate 524 0;
   run = replicate 96 0;
   last = replicate 1 0;
 }

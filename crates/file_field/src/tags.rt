@@ -4,21 +4,24 @@ ghost use mathlib.Core.Bool.{_&&_};
 ghost use lib.Dec.{leb};
 ghost use Rattle.rules_plan.specs.Fields.{isTag, comesOnce, lengthAllowed};
 
-// "tag not 01 to 05"
+// "tag not 01 to 05", and 06 is spared
 pub fn is_tag(tag: u8) -> bool
     ensures { λ r. ⌜ r ≡ isTag tag ⌝ }
 {
     match tag {
-        1..=5 => true,
+        1..=6 => true,
         _ => false,
     }
 }
 
-// "05 occurs once"
+// "05 occurs once", 06 "at most once"
 pub fn comes_once(tag: u8) -> bool
     ensures { λ r. ⌜ r ≡ comesOnce tag ⌝ }
 {
-    tag == 5
+    match tag {
+        5..=6 => true,
+        _ => false,
+    }
 }
 
 fn between(least: u16, size: u16, most: u16) -> bool
@@ -30,7 +33,7 @@ fn between(least: u16, size: u16, most: u16) -> bool
     size <= most
 }
 
-// The table of document 01: "tag, length".
+// The table "tag, length".
 pub fn length_allowed(tag: u8, size: u16) -> bool
     ensures { λ r. ⌜ r ≡ lengthAllowed tag size ⌝ }
 {
@@ -40,6 +43,7 @@ pub fn length_allowed(tag: u8, size: u16) -> bool
         3 => between(3, size, 10),
         4 => between(4, size, 19),
         5 => between(8, size, 8),
+        6 => between(22, size, 22),
         _ => false,
     }
 }

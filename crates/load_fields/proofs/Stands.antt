@@ -1,23 +1,23 @@
 -- Where reading stands in a file: the plan so far, which memory holds, and that what is judged from here on is the verdict on the whole.
 use mathlib.Core.Path.{_≡_, refl, sym, subst, _∙_}
 use mathlib.Core.Logic.{_≢_}
-use mathlib.Core.List.{List, [], flatMap}
+use mathlib.Core.List.{List, flatMap}
 use mathlib.Core.Option.{some}
-use mathlib.Core.Bool.{true, _&&_}
+use mathlib.Core.Bool.{_&&_}
 use Prim.Native.Nat.{ℕ, zero, suc, _+_, _≤_, _<_}
 use native.Mathlib.Omega.{arith}
 use lib.ListN.{length, set}
 use lib.Dec.{ltb, eqb}
 use borrow.Author.Tests.{ltb-false, lt-leb, le-leb, eq-eqb, ne-eqb}
 use Rattle.lists.specs.Search.{find}
-use Rattle.lists.specs.laws.Bools.{neither, true-both, not-both, some-some}
+use Rattle.lists.specs.laws.Bools.{neither, some-some}
 use Rattle.rules_plan.specs.Plan.{Plan, Item, blank, grow}
 use Rattle.rules_plan.specs.Fields.{tags, tagOf, comesOnce, tagFor, tagAt, nextAt, itemAt}
 use Rattle.rules_plan.specs.Judge.{fieldFault, withField, plan, fault, readFrom, readFile}
 use Rattle.rules_plan.specs.Canon.{items, written, given}
-use Rattle.rules_plan.specs.laws.Items.{UpTo, no-timings}
+use Rattle.rules_plan.specs.laws.Items.{UpTo, no-timings, no-times}
 use Rattle.rules_plan.specs.laws.Chain.{Follows}
-use Rattle.rules_plan.specs.laws.Fair.{Fair, no-items, blank-fair, up-grow, fair-grow}
+use Rattle.rules_plan.specs.laws.Fair.{Fair, no-items, blank-fair, follows-smaller, up-grow, fair-grow}
 use Rattle.rules_plan.specs.laws.Fields.{tag-here}
 use Rattle.rules_plan.specs.laws.Reading.{holds}
 use Rattle.rules_plan.specs.laws.Whole.{given-plan}
@@ -106,14 +106,11 @@ module _ {c d e f g h i j : List ℕ} where
 
         pub awaits : Awaits (w .soFar) tag
         unfolding comesOnce tagOf tags find
-        awaits = record { upTo = λ y m. omega (arith, w .upTo y m, rises); once = once }
-          where
-            once : tag ≡ 5 → w .soFar .timings ≡ []
-            once five =
-                let is : tagAt s at ≡ 5 = sym (good .tag-is) ∙ five in
-                let n = neither (ltb 5 before) (eqb 5 before && true) (rw is at (good .order)) in
-                let z : before ≢ 5 = λ y. not-both (true-both (eq-eqb 5 before (sym y)) refl) (n .1) in
-                no-timings (w .soFar) before (w .upTo) (omega (arith, rises))
+        awaits = record {
+          upTo = λ y m. omega (arith, w .upTo y m, rises);
+          timings = λ is. no-timings (w .soFar) before (w .upTo) (follows-smaller 5 before (rw (sym (good .tag-is) ∙ is) at (good .order)));
+          times = λ is. no-times (w .soFar) before (w .upTo) (follows-smaller 6 before (rw (sym (good .tag-is) ∙ is) at (good .order)));
+        }
 
         module _ (x : Item) (item : itemAt s at ≡ some x) (n : ℕ) where
           pub stops-at-item : n ≡ itemFault (w .soFar) x → n ≢ 0 → {c′ d′ e′ f′ g′ h′ i′ j′ : List ℕ} → ReadIn s n at c′ d′ e′ f′ g′ h′ i′ j′

@@ -10,12 +10,12 @@ use Rattle.lists.specs.Place.{atPlace}
 use Rattle.lists.specs.Cells.{cells}
 use Rattle.lists.specs.laws.Bools.{some-some}
 use Rattle.lists.specs.laws.Cells.{cells-same}
-use Rattle.rules_plan.specs.Plan.{Device, Link, Route, Entry, Timing, Plan, Item, device, link, path, entry, timing, grow}
-use Rattle.rules_plan.specs.Fields.{Tag, tagOf, lengthAllowed, itemOf}
+use Rattle.rules_plan.specs.Plan.{two, four, Device, Link, Route, Entry, Timing, Times, Plan, Item, device, link, path, entry, timing, times, grow}
+use Rattle.rules_plan.specs.Fields.{asTimes, Tag, tagOf, lengthAllowed, itemOf}
 use Rattle.rules_plan.specs.Meaning.{hasKind, isLink, isInitiator, initiators, hasPath, entryAt}
 use Rattle.rules_plan.specs.laws.Lengths.{allowed}
-use Rattle.memory_plan.specs.Memory.{setsOf, endsOf, rowsOf, ofRow, reachOf, pathsInOrder, pathsOf, spanOf, spansOf, aimOf, aimsOf, numbersWith, HoldsSized}
-use Rattle.memory_plan.specs.Take.{itemFault, taken}
+use Rattle.memory_plan.specs.Memory.{setsOf, endsOf, rowsOf, ofRow, reachOf, pathsInOrder, pathsOf, spanOf, spansOf, aimOf, aimsOf, costsAmong, numbersWith, HoldsSized}
+use Rattle.memory_plan.specs.Take.{itemFault, taken, timesItem}
 use Rattle.load_fields.specs.Fields.{Takes}
 
 -- what a row of the table of tags says of a content: its item, and the bounds of its length
@@ -26,6 +26,11 @@ module _ {n k : ℕ} {t : Tag} (is : n ≡ k) (row : tagOf k ≡ some t) where
 
   pub between : (size : ℕ) → lengthAllowed n size ≡ true → (t .shortest ≤ size) × (size ≤ t .longest)
   between size h = allowed k size t row (rw is at h)
+
+-- the content of a 06, number by number
+pub times-read : (s : List ℕ) {rate a d f g slot : ℕ} → rate ≡ two s 0 → a ≡ four s 2 → d ≡ four s 6 → f ≡ four s 10 → g ≡ four s 14 → slot ≡ four s 18 → timesItem rate a d f g slot ≡ asTimes s
+unfolding asTimes
+times-read s r a d f g l = rw (r, a, d, f, g, l)
 
 -- while there are no entries, the arrays of entries are all 0
 module _ (p : Plan) (none-yet : p .entries ≡ []) where
@@ -82,7 +87,7 @@ module _ {size : ℕ} {p : Plan} {s e r c a n m w : List ℕ} (old : HoldsSized 
   numbers-kept x h = old .numbers ∙ left-alone (numbersWith size) p x h
 
   pub device-taken : (d : Device) {v : ℕ} {s′ : List ℕ} → (v ≡ itemFault p (device d)) × (s′ ≡ setsOf (taken p (device d))) → Takes size p (device d) v s′ e r c a n m w
-  unfolding grow endsOf rowsOf reachOf ofRow hasPath pathsInOrder pathsOf spansOf aimsOf numbersWith isInitiator initiators
+  unfolding grow endsOf rowsOf reachOf ofRow hasPath pathsInOrder pathsOf spansOf aimsOf costsAmong numbersWith isInitiator initiators
   device-taken d new =
       let x = device d in
       record {
@@ -91,7 +96,7 @@ module _ {size : ℕ} {p : Plan} {s e r c a n m w : List ℕ} (old : HoldsSized 
       }
 
   pub link-taken : (l : Link) {v : ℕ} {s′ e′ : List ℕ} → (v ≡ itemFault p (link l)) × (s′ ≡ setsOf (taken p (link l))) × (e′ ≡ endsOf (taken p (link l))) → Takes size p (link l) v s′ e′ r c a n m w
-  unfolding grow rowsOf reachOf ofRow hasPath pathsInOrder pathsOf spansOf aimsOf numbersWith isInitiator initiators
+  unfolding grow rowsOf reachOf ofRow hasPath pathsInOrder pathsOf spansOf aimsOf costsAmong numbersWith isInitiator initiators
   link-taken l new =
       let x = link l in
       record {
@@ -122,6 +127,15 @@ module _ {size : ℕ} {p : Plan} {s e r c a n m w : List ℕ} (old : HoldsSized 
   unfolding grow setsOf hasKind isLink endsOf rowsOf reachOf ofRow hasPath pathsInOrder pathsOf spansOf aimsOf isInitiator initiators
   timing-taken t new =
       let x = timing t in
+      record {
+        answer = new .0;
+        memory = record { sets = sets-kept x refl; ends = ends-kept x refl; rows = rows-kept x refl; reach = reach-kept x refl; paths = paths-kept x refl; spans = spans-kept x refl; aims = aims-kept x refl; numbers = new .1 };
+      }
+
+  pub times-taken : (t : Times) {v : ℕ} {w′ : List ℕ} → (v ≡ itemFault p (times t)) × (w′ ≡ numbersWith size (taken p (times t))) → Takes size p (times t) v s e r c a n m w′
+  unfolding grow setsOf hasKind isLink endsOf rowsOf reachOf ofRow hasPath pathsInOrder pathsOf spansOf aimsOf isInitiator initiators
+  times-taken t new =
+      let x = times t in
       record {
         answer = new .0;
         memory = record { sets = sets-kept x refl; ends = ends-kept x refl; rows = rows-kept x refl; reach = reach-kept x refl; paths = paths-kept x refl; spans = spans-kept x refl; aims = aims-kept x refl; numbers = new .1 };

@@ -11,10 +11,11 @@ use Rattle.rules_plan.specs.laws.Items.{UpTo}
 use Rattle.memory_plan.specs.Memory.{HoldsSized, Holds}
 use Rattle.memory_plan.specs.Take.{itemFault, taken}
 
--- a field with the tag may come after plan p: none of its items has a greater tag, and intervals come once
+-- a field with the tag may come after plan p: none of its items has a greater tag, and intervals and times come once
 pub record Awaits (p : Plan) (tag : ℕ) : Type 0 where
   pub upTo : UpTo p tag
-  pub once : tag ≡ 5 → p .timings ≡ []
+  pub timings : tag ≡ 5 → p .timings ≡ []
+  pub times : tag ≡ 6 → p .times ≡ []
 
 -- the item was judged after plan p with the answer r, and memory is that of the plan with it
 pub record Takes (size : ℕ) (p : Plan) (x : Item) (r : ℕ) (sets′ ends′ rows′ reach′ paths′ spans′ aims′ numbers′ : List ℕ) : Type 0 where

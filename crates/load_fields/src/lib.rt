@@ -1,17 +1,20 @@
 // The fields of a file, front to back, up to the first fault: each is judged and then kept in plan memory.
 ghost use mathlib.Core.Path.{_≡_};
 ghost use mathlib.Core.Bool.{true};
+ghost use mathlib.Core.List.{[]};
 ghost use mathlib.Core.Option.{some};
 ghost use Prim.Native.Nat.{ℕ, _≤_};
 ghost use lib.ListN.{length};
 ghost use Rattle.rules_plan.specs.Plan.{Plan, Item, blank};
-ghost use Rattle.rules_plan.specs.Fields.{lengthAllowed, itemOf};
+ghost use Rattle.rules_plan.specs.Fields.{asTimes, lengthAllowed, itemOf};
 ghost use Rattle.rules_plan.specs.laws.Fair.{Fair};
-ghost use Rattle.memory_plan.specs.Memory.{HoldsSized, Holds};
+ghost use Rattle.memory_plan.specs.Memory.{rowsOf, pathsOf, numbersWith, HoldsSized, Holds};
+ghost use Rattle.memory_plan.specs.Take.{itemFault, taken};
 ghost use Rattle.load_fields.specs.Fields.{Awaits, Takes, ReadIn};
 ghost use Rattle.memory_plan.specs.Lent.{atEntry, atExit};
 use bytes_get::four_at;
 use bytes_get::part;
+use bytes_get::two_at;
 use file_field::field::Head;
 use file_field::field::head_at;
 use load_entries::entry;
@@ -19,12 +22,33 @@ use load_items::devices::device;
 use load_items::intervals::timing;
 use load_items::links::link;
 use load_paths::path;
+use load_times::times;
 use memory_plan::layout::*;
 
 // What came of reading a file: the number of the first fault, 0 for none, and the offset of its field.
 pub struct Read {
     pub number: u8,
     pub at: usize,
+}
+
+// The content of a 06: its verdict, 0 for none, and then the numbers have its times.
+fn take_times(content: &[u8], rows: &Rows, paths: &Paths, numbers: &mut Numbers) -> u8
+    requires { ⌜ 22 ≤ length (now content) ⌝ }
+    ensures { λ r. ⌜ ((size : ℕ) (p : Plan) → Fair p → now (rows .entry) ≡ rowsOf p → now (paths .entry) ≡ pathsOf p → now (numbers .entry) ≡ numbersWith size p →
+        p .times ≡ [] →
+        (r ≡ itemFault p (asTimes (now (content .entry)))) × (now (numbers .exit) ≡ numbersWith size (taken p (asTimes (now (content .entry)))))) ⌝ }
+{
+    times(
+        rows,
+        paths,
+        numbers,
+        two_at(content, 0),
+        four_at(content, 2),
+        four_at(content, 6),
+        four_at(content, 10),
+        four_at(content, 14),
+        four_at(content, 18),
+    )
 }
 
 // One field's content, of an allowed length: its verdict 6 to 11, 0 for none, and then memory has its item.
@@ -71,7 +95,8 @@ fn take_item(
             content[2],
             &content[3..],
         ),
-        _ => timing(numbers, four_at(content, 0), four_at(content, 4)),
+        5 => timing(numbers, four_at(content, 0), four_at(content, 4)),
+        _ => take_times(content, rows, paths, numbers),
     }
 }
 

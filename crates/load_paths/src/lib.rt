@@ -1,5 +1,6 @@
 // A path: judged after the plan so far, and put at its place in the order of writing out.
 ghost use mathlib.Core.Path.{_≡_};
+ghost use mathlib.Core.List.{[]};
 ghost use Prim.Native.Nat.{ℕ, _≤_, _<_};
 ghost use lib.ListN.{length};
 ghost use lib.Seq.{paste};
@@ -79,8 +80,8 @@ fn keep_path(
     numbers[PATHS] = count + 1;
 }
 
-// The verdict on the path, 0 for none, and then rows, reach, paths and numbers have it. No entry is there yet, and a path has eight
-// links at most.
+// The verdict on the path, 0 for none, and then rows, reach, paths and numbers have it. No entry and no times are there yet, and a path has
+// eight links at most.
 pub fn path(
     sets: &Sets,
     ends: &Ends,
@@ -94,7 +95,7 @@ pub fn path(
 ) -> u8
     requires { ⌜ length (now links) ≤ 8 ⌝ }
     ensures { λ r. ⌜ ((size : ℕ) (p : Plan) → Fair p → now (sets .entry) ≡ setsOf p → now (ends .entry) ≡ endsOf p →
-        now (rows .entry) ≡ rowsOf p → now (reach .entry) ≡ reachOf p → now (paths .entry) ≡ pathsOf p → now (numbers .entry) ≡ numbersWith size p →
+        now (rows .entry) ≡ rowsOf p → now (reach .entry) ≡ reachOf p → now (paths .entry) ≡ pathsOf p → now (numbers .entry) ≡ numbersWith size p → p .times ≡ [] →
         (r ≡ itemFault p (pathItem initiator target (now (links .entry))))
         × (now (rows .exit) ≡ rowsOf (taken p (pathItem initiator target (now (links .entry)))))
         × (now (reach .exit) ≡ reachOf (taken p (pathItem initiator target (now (links .entry)))))

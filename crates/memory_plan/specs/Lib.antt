@@ -1,4 +1,5 @@
 pub mod Memory
+pub mod Spans
 pub mod PlanHeld
 pub mod Take
 pub mod laws

@@ -1,7 +1,7 @@
 -- Plan memory: eight arrays that the caller lends, each a function of the plan that it holds, unused cells 0.
 -- So equal plans have equal memory, and the memory of no plan, all 0, is that of the blank plan.
 use mathlib.Core.Path.{_≡_}
-use Prim.Native.Nat.{ℕ, _/_, _%_, min, max}
+use Prim.Native.Nat.{ℕ, _+_, _*_, _/_, _%_, min, max}
 use mathlib.Core.List.{List, [], _∷_, flatMap}
 use mathlib.Core.Option.{Option, none, some}
 use mathlib.Core.Bool.{cond}
@@ -12,8 +12,9 @@ use Rattle.lists.specs.Place.{atPlace}
 use Rattle.lists.specs.Order.{inOrder}
 use Rattle.lists.specs.Cells.{cells, padded}
 use Rattle.bitsets.specs.Set.{packed}
-use Rattle.rules_plan.specs.Plan.{nth, Link, Route, Entry, Plan}
-use Rattle.rules_plan.specs.Meaning.{hasKind, isLink, hasPath, initiators, entryAt, leastOf, greatestOf}
+use Rattle.rules_plan.specs.Plan.{nth, Link, Route, Entry, Times, Plan}
+use Rattle.rules_plan.specs.Sheet.{fixedTime}
+use Rattle.rules_plan.specs.Meaning.{hasKind, isLink, leadsFrom, hasPath, initiators, routers, entryAt, leastOf, greatestOf, timesOf}
 use Rattle.rules_plan.specs.Canon.{written}
 
 -- `sets`: the nodes, the routers and the links that are given, each a word
@@ -65,8 +66,21 @@ aimOf (some e) = packed (λ (t : ℕ). isIn t (e .targets))
 unfoldable pub aimsOf : Plan → List ℕ
 aimsOf p = cells 512 (λ (n : ℕ). ofRow p (n / 64) (λ (i : ℕ). aimOf (entryAt (p .entries) i (n % 64))))
 
--- `numbers`: least and greatest interval, how many initiators, paths and entries there are, and the size of the plan written out.
--- A plan that is accepted has a greatest interval of 1 at least: that it is not 0 says that there is a plan.
+-- the fixed time of a path by the rate, 0 where there is none; and at 64 × row + target that of the path from the row's initiator, with the
+-- times x and among the paths xs
+unfoldable pub costOf : Times → Option Route → ℕ
+costOf x none = 0
+costOf x (some r) = x .rate * fixedTime x (routers r) (routers r)
+
+unfoldable pub costsAmong : Plan → Times → List Route → List ℕ
+costsAmong p x xs = cells 512 (λ (n : ℕ). ofRow p (n / 64) (λ (i : ℕ). costOf x (find (leadsFrom i (n % 64)) xs)))
+
+abbrev pub costsOf : Plan → List ℕ
+costsOf p = costsAmong p (timesOf (p .times)) (p .paths)
+
+-- `numbers`: least and greatest interval, how many initiators, paths and entries there are, and the size of the plan written out; the rate,
+-- the latencies, a slot by the rate, and the fixed times. A plan that is accepted has a greatest interval of 1 at least: that it is not 0
+-- says that there is a plan; and its rate is 2 at least: that it is 0 says that it carries no times.
 unfoldable pub numbersWith : ℕ → Plan → List ℕ
 numbersWith size p =
     leastOf (p .timings)
@@ -75,7 +89,13 @@ numbersWith size p =
     ∷ length (p .paths)
     ∷ length (p .entries)
     ∷ size
-    ∷ []
+    ∷ (timesOf (p .times)) .rate
+    ∷ (timesOf (p .times)) .a
+    ∷ (timesOf (p .times)) .d
+    ∷ (timesOf (p .times)) .f
+    ∷ (timesOf (p .times)) .g
+    ∷ (timesOf (p .times)) .rate * (timesOf (p .times)) .slot
+    ∷ costsOf p
 
 -- its places, as contracts name them
 abbrev pub greatestIn : List ℕ → ℕ
@@ -86,6 +106,15 @@ initiatorsIn numbers = nth numbers 2
 
 abbrev pub pathsIn : List ℕ → ℕ
 pathsIn numbers = nth numbers 3
+
+abbrev pub rateIn : List ℕ → ℕ
+rateIn numbers = nth numbers 6
+
+abbrev pub slotIn : List ℕ → ℕ
+slotIn numbers = nth numbers 11
+
+abbrev pub costIn : List ℕ → (row target : ℕ) → ℕ
+costIn numbers row target = nth numbers (12 + row * 64 + target)
 
 -- the eight arrays hold plan p, with any size for that of the plan written out
 pub record HoldsSized (size : ℕ) (p : Plan) (sets′ ends′ rows′ reach′ paths′ spans′ aims′ numbers′ : List ℕ) : Type 0 where

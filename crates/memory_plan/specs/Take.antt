@@ -4,7 +4,7 @@ use mathlib.Core.List.{List}
 use mathlib.Core.Bool.{cond}
 use lib.Dec.{eqb}
 use Rattle.lists.specs.Rows.{firstOf}
-use Rattle.rules_plan.specs.Plan.{Plan, Item, device, link, path, entry, timing, grow}
+use Rattle.rules_plan.specs.Plan.{Plan, Item, device, link, path, entry, timing, times, grow}
 use Rattle.rules_plan.specs.Judge.{itemRows}
 
 -- verdicts 6 to 11 of an item after plan p, 0 for none
@@ -30,3 +30,6 @@ entryItem i s n ts = entry (record { initiator = i; slot = s; span = n; targets 
 
 abbrev pub timingItem : ℕ → ℕ → Item
 timingItem a b = timing (record { least = a; greatest = b })
+
+abbrev pub timesItem : (rate a d f g slot : ℕ) → Item
+timesItem rate a d f g slot = times (record { rate = rate; a = a; d = d; f = f; g = g; slot = slot })

@@ -1,3 +1,5 @@
+pub mod RowCells
+pub mod Costs
 pub mod SameMemory
 pub mod InRows
 pub mod PathRows

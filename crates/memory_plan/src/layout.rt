@@ -53,8 +53,10 @@ pub type Spans = [u8; CELLS];
 
 pub type Aims = [u64; CELLS];
 
-// `numbers`: least and greatest interval, how many initiators, paths and entries there are, the size of the plan written out.
-pub const NUMBERS: usize = 6;
+// `numbers`: least and greatest interval, how many initiators, paths and entries there are, the size of the plan written out; the rate and
+// the four latencies, and a slot by the rate; then for each row and target, at COSTS + row × SLOTS + target, the fixed time of that path by
+// the rate. By the rate, in Mbit/s, nanoseconds are thousandths of a bit: so lengths and times are compared, and nothing is divided.
+pub const NUMBERS: usize = 524;
 
 pub type Numbers = [u32; NUMBERS];
 
@@ -69,3 +71,17 @@ pub const PATHS: usize = 3;
 pub const ENTRIES: usize = 4;
 
 pub const SIZE: usize = 5;
+
+pub const RATE: usize = 6;
+
+pub const LATENCY_A: usize = 7;
+
+pub const LATENCY_D: usize = 8;
+
+pub const LATENCY_F: usize = 9;
+
+pub const LATENCY_G: usize = 10;
+
+pub const SLOT: usize = 11;
+
+pub const COSTS: usize = 12;

@@ -1,10 +1,10 @@
-// Devices, links and intervals in memory as fields of a file again, in a lent buffer.
+// Devices, links, intervals and times in memory as fields of a file again, in a lent buffer.
 // No function here stores a byte that has no room, whatever the memory holds.
 ghost use mathlib.Core.List.{flatMap};
 ghost use Rattle.lists.specs.Search.{below64};
 ghost use Rattle.lists.specs.Puts.{Puts};
-ghost use Rattle.rules_plan.specs.Fields.{fourBytes};
-ghost use Rattle.out_items.specs.Out.{deviceBytes, linkBytes, timingBytes};
+ghost use Rattle.rules_plan.specs.Fields.{twoBytes, fourBytes};
+ghost use Rattle.out_items.specs.Out.{deviceBytes, linkBytes, timingBytes, timesBytes};
 use bitsets::has;
 use bitsets::least;
 use bitsets::union;
@@ -45,7 +45,16 @@ pub fn put_links(out: &mut [u8], at: usize, links: u64, ends: &Ends) -> usize
     k
 }
 
-// A number in four bytes, most significant first.
+// A number in two and in four bytes, most significant first.
+fn put_two(out: &mut [u8], at: usize, n: u16) -> usize
+    ensures { λ r. ⌜ Puts (now (out .entry)) at (twoBytes n) (now (out .exit)) r ⌝ }
+{
+    let first = (n / 256) as u8;
+    let second = (n % 256) as u8;
+    let two = [first, second];
+    put(out, at, &two)
+}
+
 fn put_four(out: &mut [u8], at: usize, n: u32) -> usize
     ensures { λ r. ⌜ Puts (now (out .entry)) at (fourBytes n) (now (out .exit)) r ⌝ }
 {
@@ -65,4 +74,22 @@ pub fn put_timing(out: &mut [u8], at: usize, least: u32, greatest: u32) -> usize
     let k = put(out, at, &head);
     let j = put_four(out, k, least);
     put_four(out, j, greatest)
+}
+
+// The rate, the latencies and the slot length, which is kept by the rate; nothing where the plan carries none.
+pub fn put_times(out: &mut [u8], at: usize, numbers: &Numbers) -> usize
+    ensures { λ r. ⌜ Puts (now (out .entry)) at (timesBytes (now (numbers .entry))) (now (out .exit)) r ⌝ }
+{
+    let rate = numbers[RATE];
+    if rate == 0 {
+        return at;
+    }
+    let head = [6, 0, 22];
+    let k = put(out, at, &head);
+    let a = put_two(out, k, (rate % 65_536) as u16);
+    let d = put_four(out, a, numbers[LATENCY_A]);
+    let f = put_four(out, d, numbers[LATENCY_D]);
+    let g = put_four(out, f, numbers[LATENCY_F]);
+    let slot = put_four(out, g, numbers[LATENCY_G]);
+    put_four(out, slot, numbers[SLOT] / rate)
 }

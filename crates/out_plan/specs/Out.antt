@@ -10,7 +10,7 @@ use Rattle.lists.specs.Search.{upFrom, below64}
 use Rattle.rules_plan.specs.Plan.{nth, Plan}
 use Rattle.rules_plan.specs.Copy.{copyAnswer, copied}
 use Rattle.memory_plan.specs.PlanHeld.{PlanHeld}
-use Rattle.out_items.specs.Out.{deviceBytes, linkBytes, timingBytes}
+use Rattle.out_items.specs.Out.{deviceBytes, linkBytes, timingBytes, timesBytes}
 use Rattle.out_rows.specs.Out.{pathBytes, entryBytes}
 
 -- the contract of `write_out`, of memory that a clear or a load left; it is not lent `reach`, which it need not read
@@ -27,3 +27,4 @@ outBytes sets ends rows paths spans aims numbers =
     ++ flatMap (pathBytes paths) (upFrom (min (nth numbers 3) 128) 0)
     ++ flatMap (entryBytes rows spans aims) (upFrom (64 * min (nth numbers 2) 8) 0)
     ++ timingBytes (nth numbers 0) (nth numbers 1)
+    ++ timesBytes numbers

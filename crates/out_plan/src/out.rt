@@ -5,6 +5,7 @@ use memory_plan::interval::is_loaded;
 use memory_plan::layout::*;
 use out_items::put_devices;
 use out_items::put_links;
+use out_items::put_times;
 use out_items::put_timing;
 use out_rows::put_entries;
 use out_rows::put_paths;
@@ -26,7 +27,7 @@ pub fn write_out(
     if !is_loaded(numbers) {
         return Copied::NotWritten { number: 20 };
     }
-    // A plan has at most 13,643 bytes.
+    // A plan is as long as its file, and that has at most 16,384 bytes.
     let size = (numbers[SIZE] % 65_536) as u16;
     if out.len() < size as usize {
         return Copied::NotWritten { number: 30 };
@@ -42,6 +43,7 @@ pub fn write_out(
         aims,
         SLOTS * at_most(numbers[INITIATORS], ROWS),
     );
-    put_timing(out, entries, numbers[LEAST], numbers[GREATEST]);
+    let timing = put_timing(out, entries, numbers[LEAST], numbers[GREATEST]);
+    put_times(out, timing, numbers);
     Copied::Written { size }
 }

@@ -3,8 +3,11 @@ use Prim.Native.Nat.{ℕ}
 use Prim.Native.String.{String}
 use mathlib.Core.Path.{_≡_}
 use mathlib.Core.List.{List, [], _∷_, _++_, map, flatMap}
-use Rattle.rules_plan.specs.Plan.{Item, device, link, path, entry, timing}
+use Rattle.rules_plan.specs.declared.Sheet.{Sheet}
+use Rattle.rules_plan.specs.declared.Sheet.the-variants.{NoSheet, Terms}
+use Rattle.rules_plan.specs.Plan.{Times, Item, device, link, path, entry, timing, times}
 use Rattle.rules_plan.specs.Fields.{fieldFor}
+use Rattle.rules_plan.specs.Sheet.{sheetAnswer}
 use Rattle.rules_plan.specs.Judge.{judge}
 use Rattle.rules_plan.specs.Print.{text, line}
 use Rattle.rules_box.specs.declared.Event.{Event}
@@ -49,12 +52,29 @@ firstPlan = planA (at 1 0 1 (3 ∷ []) ∷ at 2 0 1 (4 ∷ []) ∷ [])
 unfoldable pub onlyTiming : List ℕ
 onlyTiming = 0x05 ∷ 0x00 ∷ 0x08 ∷ 0x00 ∷ 0x00 ∷ 0x00 ∷ 0x5A ∷ 0x00 ∷ 0x00 ∷ 0x00 ∷ 0x6E ∷ []
 
--- what is done: a file is judged; or a file is loaded and events follow, each with room for 17 records
+-- T-01: "With R 4, D 256, S 200 and 5,000 each"
+unfoldable pub fiveThousandEach : ℕ → Times
+fiveThousandEach slot = record { rate = 200; a = 5_000; d = 5_000; f = 5_000; g = 5_000; slot = slot }
+
+-- a path over four routers, and an entry of span 1, in a plan that carries these times with a slot length
+unfoldable pub overFour : ℕ → List ℕ
+overFour slot =
+    flatMap fieldFor
+    (node 1 ∷ node 2 ∷ router 10 ∷ router 11 ∷ router 12 ∷ router 13
+    ∷ joins 0 1 10 ∷ joins 1 10 11 ∷ joins 2 11 12 ∷ joins 3 12 13 ∷ joins 4 13 2
+    ∷ route 1 2 (0 ∷ 1 ∷ 2 ∷ 3 ∷ 4 ∷ [])
+    ∷ at 1 0 1 (2 ∷ [])
+    ∷ timing (record { least = 90; greatest = 110 })
+    ∷ times (fiveThousandEach slot)
+    ∷ [])
+
+-- what is done: a file is judged; a file is loaded and events follow, each with room for 17 records; or the sheet is asked for
 pub data Given : Type 0 where
   judged : List ℕ → Given
   fed : List ℕ → List Event → Given
+  asked : Times → (out home n : ℕ) → Given
 
--- what is shown: the whole output; or the answer of each event and the bytes of its records
+-- what is shown: the whole output; the answer of each event and the bytes of its records; or the sheet
 pub record Seen : Type 0 where
   pub answer : Answer
   pub bytes : List ℕ
@@ -62,6 +82,7 @@ pub record Seen : Type 0 where
 pub data Shown : Type 0 where
   output : List ℕ → Shown
   answers : List Seen → Shown
+  terms : Sheet → Shown
 
 unfoldable pub seen : Box → Watchdog → List Event → List Seen
 seen b w [] = []
@@ -72,6 +93,7 @@ seen b w (e ∷ es) =
 unfoldable pub outcome : Given → Shown
 outcome (judged s) = output (line (judge s))
 outcome (fed s es) = answers (seen (loaded s) (watchdogLoaded s) es)
+outcome (asked x out home n) = terms (sheetAnswer x out home n)
 
 pub record Sample : Type 0 where
   pub given : Given
@@ -79,6 +101,13 @@ pub record Sample : Type 0 where
 
 unfoldable pub row : List ℕ → String → Sample
 row s words = record { given = judged s; shown = output (text words) }
+
+-- one request of initiator 1 to target 2 after another, and what each answers
+unfoldable pub requests : List ℕ → List ℕ → List Answer → Sample
+requests s lengths given = record {
+  given = fed s (map (λ (n : ℕ). Request 1 2 0 n) lengths);
+  shown = answers (map (λ (a : Answer). record { answer = a; bytes = [] }) given);
+}
 
 unfoldable pub samples : List Sample
 samples =
@@ -94,7 +123,7 @@ samples =
     ∷ row [] "REFUSED 12 0\n"
     ∷ row onlyTiming "ACCEPTED 0 0 0 0\n"
     ∷ row (onlyTiming ++ onlyTiming) "REFUSED 4 11\n"
-    ∷ row (0x06 ∷ 0x00 ∷ 0x00 ∷ []) "REFUSED 3 0\n"
+    ∷ row (0x06 ∷ 0x00 ∷ 0x00 ∷ []) "REFUSED 5 0\n"
     -- "First plan: request 1→3, read, 100 gets number 0; time-code 0 at 1000 …; no reply, time-code 1 at 1100 … A reply now: 27."
     ∷ record {
       given = fed firstPlan (Request 1 3 0 100 ∷ TimeCode 0 1000 ∷ TimeCode 1 1100 ∷ Reply 1 0 0 ∷ []);
@@ -111,6 +140,14 @@ samples =
       given = fed firstPlan (TimeCode 0 4_294_967_290 ∷ TimeCode 1 94 ∷ []);
       shown = answers (record { answer = Recorded 0; bytes = [] } ∷ record { answer = Recorded 0; bytes = [] } ∷ []);
     }
+    -- T-01: "the sum is 39,450", and no sheet of 8 routers
+    ∷ record { given = asked (fiveThousandEach 0) 4 4 256; shown = terms (Terms 39_450 2_400 1_200 12_850 2_400 600) }
+    ∷ record { given = asked (fiveThousandEach 0) 8 4 256; shown = terms (NoSheet 6) }
+    -- "the largest length … whose time fits": slots of 39,450 permit 256, of 39,449 only 255; of 26,650 only 0, and of 26,649 "not even length 0"
+    ∷ requests (overFour 39_450) (256 ∷ 257 ∷ []) (Joined 0 ∷ Refused 25 ∷ [])
+    ∷ requests (overFour 39_449) (255 ∷ 256 ∷ []) (Joined 0 ∷ Refused 25 ∷ [])
+    ∷ requests (overFour 26_650) (0 ∷ 1 ∷ []) (Joined 0 ∷ Refused 25 ∷ [])
+    ∷ requests (overFour 26_649) (0 ∷ []) (Refused 25 ∷ [])
     ∷ []
 
 -- every row shows what the definitions give

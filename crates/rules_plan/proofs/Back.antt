@@ -8,7 +8,6 @@ use Rattle.rules_plan.specs.Promises.{Accepted?, SamePlans, ComesBack, W
 use Rattle.rules_plan.specs.laws.Whole.{accepted-clean, clean-counts}
 use Rattle.rules_plan.specs.laws.Accepted.{accepted-good, accepted-length}
 use Rattle.rules_plan.specs.laws.Reads.{given-back, judge-back}
-use Rattle.rules_plan.specs.laws.Size.{most-bytes}
 use Rattle.rules_plan.specs.laws.GoodSound.{good-sound}
 use Rattle.rules_plan.specs.laws.SameVerdict.{same-counts}
 use Rattle.rules_plan.specs.laws.SameItems.{same-length}
@@ -38,7 +37,7 @@ module _ (s : List ℕ) (h : Accepted? s) where
     plan = plan-back;
     bytes = ap written plan-back;
     size = sym (same-length same) ∙ sym (accepted-length s h);
-    most = most-bytes (canonical (given s)) goodC;
+    most = goodC .short;
   }
 
 pub comes-back : WrittenOutComesBack

@@ -15,12 +15,12 @@ use Rattle.lists.specs.laws.Bools.{not-both}
 use Rattle.rules_plan.specs.Plan.{Plan, Item}
 use Rattle.rules_plan.specs.Fields.{comesOnce, tagAt, sizeAt, nextAt, itemAt}
 use Rattle.rules_plan.specs.Judge.{itemRows, headRows, fieldRows, fieldFault}
-use Rattle.rules_plan.specs.Wrong.{Wrong, under-three, past-end, tag-under, tag-over, tag-falls, second-05, not-allowed, of-item}
+use Rattle.rules_plan.specs.Wrong.{Wrong, under-three, past-end, tag-under, tag-over, tag-falls, second-05, second-06, not-allowed, of-item}
 use Rattle.rules_plan.specs.Words.{Faultless, Fault}
 use Rattle.rules_plan.specs.laws.FieldRows.{no-rows, first-row}
 use Rattle.rules_plan.specs.laws.Fair.{Fair}
 use Rattle.rules_plan.proofs.Asks.{Asks, lt-asks, or-asks, false-asks, row-says}
-use Rattle.rules_plan.proofs.Heads.{no-tag-asks, second-asks, not-allowed-asks}
+use Rattle.rules_plan.proofs.Heads.{Second, no-tag-asks, second-asks, not-allowed-asks}
 use Rattle.rules_plan.proofs.WrongItems.{item-wrong}
 
 -- a row of two tables one behind the other is a row of one of them
@@ -37,7 +37,7 @@ module _ (s : List ℕ) (at before : ℕ) where
   cut-asks : Asks (ltb (length s) (at + 3) || ltb (length s) (nextAt s at)) ((length s < at + 3) ⊎ (length s < nextAt s at))
   cut-asks = or-asks (lt-asks (length s) (at + 3)) (lt-asks (length s) (nextAt s at))
 
-  order-asks : Asks (ltb (tagAt s at) before || eqb (tagAt s at) before && comesOnce (tagAt s at)) ((tagAt s at < before) ⊎ ((before ≡ 5) × (tagAt s at ≡ 5)))
+  order-asks : Asks (ltb (tagAt s at) before || eqb (tagAt s at) before && comesOnce (tagAt s at)) ((tagAt s at < before) ⊎ Second before (tagAt s at))
   order-asks = or-asks (lt-asks (tagAt s at) before) (second-asks (tagAt s at) before)
 
 -- the field at an offset, after a field with the tag before and the fair plan p
@@ -53,13 +53,14 @@ module _ (p : Plan) (fair : Fair p) (s : List ℕ) (at before : ℕ) where
       cut (inl h) = under-three (omega arith)
       cut (inr h) = past-end (omega arith)
 
-      tag : (tagAt s at < 1) ⊎ (5 < tagAt s at) → Wrong p s at before 3
+      tag : (tagAt s at < 1) ⊎ (6 < tagAt s at) → Wrong p s at before 3
       tag (inl h) = tag-under h
       tag (inr h) = tag-over h
 
-      order : (tagAt s at < before) ⊎ ((before ≡ 5) × (tagAt s at ≡ 5)) → Wrong p s at before 4
+      order : (tagAt s at < before) ⊎ Second before (tagAt s at) → Wrong p s at before 4
       order (inl h) = tag-falls h
-      order (inr (h, e)) = second-05 h e
+      order (inr (inl (h, e))) = second-05 h e
+      order (inr (inr (h, e))) = second-06 h e
 
   there : (n : ℕ) → testOf n (fieldRows p s at before) ≡ true → Wrong p s at before n
   unfolding fieldRows testOf
@@ -93,7 +94,8 @@ module _ (p : Plan) (fair : Fair p) (s : List ℕ) (at before : ℕ) where
   back n (tag-under h) = (no-tag-asks (tagAt s at)) .1 (inl h)
   back n (tag-over h) = (no-tag-asks (tagAt s at)) .1 (inr h)
   back n (tag-falls h) = (order-asks s at before) .1 (inl h)
-  back n (second-05 h e) = (order-asks s at before) .1 (inr (h, e))
+  back n (second-05 h e) = (order-asks s at before) .1 (inr (inl (h, e)))
+  back n (second-06 h e) = (order-asks s at before) .1 (inr (inr (h, e)))
   back n (not-allowed h) = (not-allowed-asks (tagAt s at) (sizeAt s at)) .1 h
   back n (of-item {x} e w) = let h = (item-wrong p fair x n) .1 w in rw (e, fieldRows) (behind n (itemRows p x) (item-row x n h) ∙ h)
 

@@ -8,16 +8,16 @@ use lib.ListN.{length}
 use Rattle.lists.specs.Search.{all}
 use Rattle.lists.specs.Rows.{testOf}
 use Rattle.lists.specs.laws.Bools.{not-both}
-use Rattle.rules_plan.specs.Plan.{Route, Entry, Plan, Item, device, link, path, entry, timing}
+use Rattle.rules_plan.specs.Plan.{Route, Entry, Plan, Item, device, link, path, entry, timing, times}
 use Rattle.rules_plan.specs.Meaning.{isDevice, isNode, isLink, isInitiator, hasPath, isWalk}
 use Rattle.rules_plan.specs.Judge.{givenBefore, notGiven, tooMany, noWalk, noPath, itemRows}
 use Rattle.rules_plan.specs.Walk.{IsRouter, Twice, Walk}
-use Rattle.rules_plan.specs.Wrong.{IsDevice, IsLink, HasPath, HasEntry, IsInitiator, Eight, endsOf, devicesOf, linksOf, WrongItem, device-over, named-device-over, link-over, named-link-over, kind-over, slot-over, span-under, span-over, greatest-under, greatest-over, least-over, to-itself, ends-equal, device-before, link-before, path-before, entry-before, target-twice, no-device, no-link, router-end, ninth, past-128, no-walk, no-path}
+use Rattle.rules_plan.specs.Wrong.{IsDevice, IsLink, HasPath, HasEntry, IsInitiator, Eight, endsOf, devicesOf, linksOf, WrongItem, device-over, named-device-over, link-over, named-link-over, kind-over, slot-over, span-under, span-over, greatest-under, greatest-over, least-over, rate-under, rate-over, time-over, to-itself, ends-equal, device-before, link-before, path-before, entry-before, target-twice, no-device, no-link, router-end, ninth, past-128, no-walk, no-path}
 use Rattle.rules_plan.specs.laws.Fair.{Fair}
 use Rattle.rules_plan.proofs.Asks.{Asks, le-asks, or-asks, and-asks, not-asks, not-and-asks, not-all-asks, row-says}
 use Rattle.rules_plan.proofs.Walks.{walk-asks}
 use Rattle.rules_plan.proofs.Given.{device-asks, link-asks, path-asks, entry-asks, initiator-asks, twice-asks, links-differ, no-node-asks, eight-asks}
-use Rattle.rules_plan.proofs.OutOfRange.{range-asks, outside-wrong, device-outside, link-outside}
+use Rattle.rules_plan.proofs.OutOfRange.{range-asks, outside-wrong, device-outside, link-outside, time-outside}
 
 module _ (p : Plan) where
   -- a device that is no node
@@ -31,6 +31,7 @@ module _ (p : Plan) where
   Before (path x) = HasPath p (x .start) (x .end)
   Before (entry e) = HasEntry p (e .initiator) (e .slot) ⊎ Twice (e .targets)
   Before (timing t) = ⊥
+  Before (times x) = ⊥
 
   abbrev Missing : Item → Type 0
   Missing (device d) = ⊥
@@ -38,6 +39,7 @@ module _ (p : Plan) where
   Missing (path x) = (NoNode (x .start) ⊎ NoNode (x .end)) ⊎ ((n : ℕ) × List·Memᴰ n (x .links) × (IsLink p n → ⊥))
   Missing (entry e) = NoNode (e .initiator) ⊎ ((n : ℕ) × List·Memᴰ n (e .targets) × NoNode n)
   Missing (timing t) = ⊥
+  Missing (times x) = ⊥
 
   never : Asks false ⊥
   never = (λ h. not-both h refl, λ h. absurd h)
@@ -49,6 +51,7 @@ module _ (p : Plan) where
   before-asks (path x) = path-asks p (x .start) (x .end)
   before-asks (entry e) = or-asks (entry-asks p (e .initiator) (e .slot)) (twice-asks (e .targets))
   before-asks (timing t) = never
+  before-asks (times x) = never
 
   before-wrong : (x : Item) → Before x → WrongItem p x 7
   before-wrong (device d) h = device-before {d = d} h
@@ -57,6 +60,7 @@ module _ (p : Plan) where
   before-wrong (entry e) (inl h) = entry-before {e = e} h
   before-wrong (entry e) (inr h) = target-twice {e = e} h
   before-wrong (timing t) h = absurd h
+  before-wrong (times x) h = absurd h
 
   no-node-wrong : (x : Item) (n : ℕ) → List·Memᴰ n (devicesOf x) → List·Memᴰ n (endsOf x) → NoNode n → WrongItem p x 8
   no-node-wrong x n m e (inl h) = no-device m h
@@ -73,6 +77,7 @@ module _ (p : Plan) where
   missing-wrong (entry e) (inl h) = no-node-wrong (entry e) (e .initiator) (List·Memᴰ·head refl) (List·Memᴰ·head refl) h
   missing-wrong (entry e) (inr (n, m, h)) = no-node-wrong (entry e) n (List·Memᴰ·tail m) (List·Memᴰ·tail m) h
   missing-wrong (timing t) h = absurd h
+  missing-wrong (times x) h = absurd h
 
   -- a device that an item names and that is not given, and a router at an end, are asked about
   device-missing : (x : Item) (n : ℕ) → List·Memᴰ n (devicesOf x) → (IsDevice p n → ⊥) → Missing x
@@ -87,6 +92,7 @@ module _ (p : Plan) where
   device-missing (entry e) n (List·Memᴰ·head g) h = inl (inl (rw g at h))
   device-missing (entry e) n (List·Memᴰ·tail m) h = inr (n, m, inl h)
   device-missing (timing t) n m h = absurd (List·Memᴰ·not-nil m)
+  device-missing (times x) n m h = absurd (List·Memᴰ·not-nil m)
 
   router-missing : (x : Item) (n : ℕ) → List·Memᴰ n (endsOf x) → IsRouter p n → Missing x
   unfolding endsOf
@@ -98,6 +104,7 @@ module _ (p : Plan) where
   router-missing (entry e) n (List·Memᴰ·head g) h = inl (inr (rw g at h))
   router-missing (entry e) n (List·Memᴰ·tail m) h = inr (n, m, inr h)
   router-missing (timing t) n m h = absurd (List·Memᴰ·not-nil m)
+  router-missing (times x) n m h = absurd (List·Memᴰ·not-nil m)
 
   link-missing : (x : Item) (n : ℕ) → List·Memᴰ n (linksOf x) → (IsLink p n → ⊥) → Missing x
   unfolding linksOf
@@ -106,6 +113,7 @@ module _ (p : Plan) where
   link-missing (path x) n m h = inr (n, m, h)
   link-missing (entry e) n m h = absurd (List·Memᴰ·not-nil m)
   link-missing (timing t) n m h = absurd (List·Memᴰ·not-nil m)
+  link-missing (times x) n m h = absurd (List·Memᴰ·not-nil m)
 
 module _ (p : Plan) (fair : Fair p) where
   no-device-asks : (n : ℕ) → Asks (not (isDevice p n)) (IsDevice p n → ⊥)
@@ -124,6 +132,7 @@ module _ (p : Plan) (fair : Fair p) where
       (not-all-asks (isLink p) _ no-link-asks (x .links))
   missing-asks (entry e) = not-and-asks (isNode p (e .initiator)) (all (isNode p) (e .targets)) (no-node-asks p fair (e .initiator)) (not-all-asks (isNode p) _ (no-node-asks p fair) (e .targets))
   missing-asks (timing t) = never p
+  missing-asks (times x) = never p
 
   -- 9 and 10, of a path
   many-asks : (x : Route) → Asks (tooMany p (path x)) (((IsInitiator p (x .start) → ⊥) × Eight p) ⊎ (128 ≤ length (p .paths)))
@@ -150,6 +159,7 @@ module _ (p : Plan) (fair : Fair p) where
       by (inr l) = past-128 l
   many-wrong (entry e) h = not-both h refl
   many-wrong (timing t) h = not-both h refl
+  many-wrong (times x) h = not-both h refl
 
   no-walk-wrong : (x : Item) → noWalk p x ≡ true → WrongItem p x 10
   unfolding noWalk
@@ -158,6 +168,7 @@ module _ (p : Plan) (fair : Fair p) where
   no-walk-wrong (path x) h = no-walk {x = x} ((no-walk-asks x) .0 h)
   no-walk-wrong (entry e) h = not-both h refl
   no-walk-wrong (timing t) h = not-both h refl
+  no-walk-wrong (times x) h = not-both h refl
 
   no-path-wrong : (x : Item) → noPath p x ≡ true → WrongItem p x 11
   unfolding noPath
@@ -166,6 +177,7 @@ module _ (p : Plan) (fair : Fair p) where
   no-path-wrong (path x) h = not-both h refl
   no-path-wrong (entry e) h = let (t, m, n) = (no-path-asks e) .0 h in no-path {e = e} {t = t} m n
   no-path-wrong (timing t) h = not-both h refl
+  no-path-wrong (times x) h = not-both h refl
 
   row-wrong : (x : Item) (n : ℕ) → testOf n (itemRows p x) ≡ true → WrongItem p x n
   unfolding itemRows
@@ -187,6 +199,9 @@ module _ (p : Plan) (fair : Fair p) where
   wrong-row {x} (greatest-under h) = (range-asks x) .1 (inl (inl h))
   wrong-row {x} (greatest-over h) = (range-asks x) .1 (inl (inr h))
   wrong-row {x} (least-over h) = (range-asks x) .1 (inr h)
+  wrong-row {x} (rate-under h) = (range-asks x) .1 (inl (inl (inl (inl (inl (inl h))))))
+  wrong-row {x} (rate-over h) = (range-asks x) .1 (inl (inl (inl (inl (inl (inr h))))))
+  wrong-row (time-over {x} {n} m h) = (range-asks (times x)) .1 (time-outside x n m h)
   wrong-row {x} (to-itself h) = (range-asks x) .1 (inr h)
   wrong-row {x} (ends-equal h) = (range-asks x) .1 (inr h)
   wrong-row {x} (device-before h) = (before-asks p x) .1 h

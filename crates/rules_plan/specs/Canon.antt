@@ -5,7 +5,7 @@ use Prim.Native.Nat.{ℕ, min, max}
 use mathlib.Core.List.{List, _++_, map, flatMap}
 use Rattle.lists.specs.Search.{keep, isIn, below64}
 use Rattle.lists.specs.Order.{inOrder, Shuffled}
-use Rattle.rules_plan.specs.Plan.{Device, Link, Route, Entry, withTargets, Plan, blank, withDevices, withLinks, withPaths, withEntries, Item, device, link, path, entry, timing}
+use Rattle.rules_plan.specs.Plan.{Device, Link, Route, Entry, withTargets, Plan, blank, withDevices, withLinks, withPaths, withEntries, Item, device, link, path, entry, timing, times}
 use Rattle.rules_plan.specs.Fields.{fieldFor}
 use Rattle.rules_plan.specs.Judge.{plan, fault, readFile}
 
@@ -30,7 +30,7 @@ canonical p =
 
 -- the items in order of tag, and the bytes of their fields
 unfoldable pub items : Plan → List Item
-items p = map device (p .devices) ++ map link (p .links) ++ map path (p .paths) ++ map entry (p .entries) ++ map timing (p .timings)
+items p = map device (p .devices) ++ map link (p .links) ++ map path (p .paths) ++ map entry (p .entries) ++ map timing (p .timings) ++ map times (p .times)
 
 unfoldable pub written : Plan → List ℕ
 written p = flatMap fieldFor (items p)
@@ -59,3 +59,4 @@ pub record SamePlan (p q : Plan) : Type 0 where
   pub paths : Shuffled _≡_ (p .paths) (q .paths)
   pub entries : Shuffled SameEntry (p .entries) (q .entries)
   pub timings : p .timings ≡ q .timings
+  pub times : p .times ≡ q .times

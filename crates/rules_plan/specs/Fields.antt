@@ -6,7 +6,7 @@ use mathlib.Core.Bool.{Bool, true, false, _&&_}
 use lib.ListN.{length, take, drop}
 use lib.Dec.{leb, eqb}
 use Rattle.lists.specs.Search.{find, isSome}
-use Rattle.rules_plan.specs.Plan.{nth, two, four, Item, device, link, path, entry, timing}
+use Rattle.rules_plan.specs.Plan.{nth, two, four, Item, device, link, path, entry, timing, times}
 
 -- "device number, kind"
 unfoldable pub asDevice : List ℕ → Item
@@ -28,6 +28,10 @@ asEntry c = entry (record { initiator = nth c 0; slot = nth c 1; span = nth c 2;
 unfoldable pub asTiming : List ℕ → Item
 asTiming c = timing (record { least = four c 0; greatest = four c 4 })
 
+-- "S in 2 bytes, five numbers of 4, high byte first"
+unfoldable pub asTimes : List ℕ → Item
+asTimes c = times (record { rate = two c 0; a = four c 2; d = four c 6; f = four c 10; g = four c 14; slot = four c 18 })
+
 -- a row of the table "tag, length, content"; once: the tag occurs once
 pub record Tag : Type 0 where
   pub number : ℕ
@@ -43,6 +47,7 @@ tags =
     ∷ record { number = 3; shortest = 3; longest = 10; once = false; reads = asPath }
     ∷ record { number = 4; shortest = 4; longest = 19; once = false; reads = asEntry }
     ∷ record { number = 5; shortest = 8; longest = 8; once = true; reads = asTiming }
+    ∷ record { number = 6; shortest = 22; longest = 22; once = true; reads = asTimes }
     ∷ []
 
 unfoldable pub tagOf : ℕ → Option Tag
@@ -77,6 +82,9 @@ unfoldable pub itemAt : List ℕ → ℕ → Option Item
 itemAt s at = itemOf (tagAt s at) (contentAt s at)
 
 -- the same the other way: an item's tag, its content, its field
+unfoldable pub twoBytes : ℕ → List ℕ
+twoBytes n = n / 256 ∷ n % 256 ∷ []
+
 unfoldable pub fourBytes : ℕ → List ℕ
 fourBytes n = n / 16_777_216 ∷ n / 65_536 % 256 ∷ n / 256 % 256 ∷ n % 256 ∷ []
 
@@ -86,6 +94,7 @@ tagFor (link l) = 2
 tagFor (path x) = 3
 tagFor (entry e) = 4
 tagFor (timing t) = 5
+tagFor (times x) = 6
 
 unfoldable pub contentFor : Item → List ℕ
 contentFor (device d) = d .num ∷ d .kind ∷ []
@@ -93,6 +102,7 @@ contentFor (link l) = l .num ∷ l .one ∷ l .other ∷ []
 contentFor (path x) = x .start ∷ x .end ∷ x .links
 contentFor (entry e) = e .initiator ∷ e .slot ∷ e .span ∷ e .targets
 contentFor (timing t) = fourBytes (t .least) ++ fourBytes (t .greatest)
+contentFor (times x) = twoBytes (x .rate) ++ fourBytes (x .a) ++ fourBytes (x .d) ++ fourBytes (x .f) ++ fourBytes (x .g) ++ fourBytes (x .slot)
 
 unfoldable pub fieldFor : Item → List ℕ
 fieldFor x = tagFor x ∷ length (contentFor x) / 256 ∷ length (contentFor x) % 256 ∷ contentFor x

@@ -57,6 +57,8 @@ pub record Good (p : Plan) : Type 0 where
   pub reached : Each p (noPath p) false
   -- 4 and 12: one 05
   pub timing : length (p .timings) ≡ 1
+  -- 4: "06, at most once"
+  pub times : length (p .times) ≤ 1
   -- 13
   pub no-overrun : overrun (p .entries) ≡ none
   -- 14

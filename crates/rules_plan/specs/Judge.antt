@@ -10,7 +10,8 @@ use Rattle.lists.specs.Search.{any, all, when, firstSome, twice, least}
 use Rattle.lists.specs.Rows.{Row, firstOf}
 use Rattle.rules_plan.specs.declared.Verdict.{Verdict}
 use Rattle.rules_plan.specs.declared.Verdict.the-variants.{Accepted, Faulty, Overrun, Clash}
-use Rattle.rules_plan.specs.Plan.{Route, Entry, Plan, blank, Item, device, link, path, entry, timing, grow}
+use Rattle.rules_plan.specs.Plan.{Route, Entry, Plan, blank, Item, device, link, path, entry, timing, times, grow}
+use Rattle.rules_plan.specs.Sheet.{timesOutOfRange}
 use Rattle.rules_plan.specs.Fields.{isTag, comesOnce, lengthAllowed, tagAt, sizeAt, nextAt, itemAt}
 use Rattle.rules_plan.specs.Meaning.{isDevice, isNode, isLink, isInitiator, initiators, hasPath, isWalk, mayUse, isAtWork, standsAt, overruns}
 
@@ -27,13 +28,15 @@ routeNotGiven p x = not (isNode p (x .start) && isNode p (x .end) && all (isLink
 abbrev pub routeNoWalk : Plan → Route → Bool
 routeNoWalk p x = not (isWalk p (x .start) (x .links) (x .end))
 
--- 6: "a device, link, kind, slot, span or interval out of range; a link joining a device to itself; a path with initiator equal to target"
+-- 6: "a device, link, kind, slot, span or interval out of range; a link joining a device to itself; a path with initiator equal to target";
+-- "S outside 2 to 400, or a latency or slot length over 1,000,000, is 6"
 unfoldable pub outOfRange : Item → Bool
 outOfRange (device d) = over63 (d .num) || ltb 1 (d .kind)
 outOfRange (link l) = over63 (l .num) || over63 (l .one) || over63 (l .other) || eqb (l .one) (l .other)
 outOfRange (path x) = routeOutOfRange x
 outOfRange (entry e) = over63 (e .initiator) || over63 (e .slot) || eqb (e .span) 0 || ltb 16 (e .span) || any over63 (e .targets)
 outOfRange (timing t) = eqb (t .greatest) 0 || ltb 2_147_483_647 (t .greatest) || ltb (t .greatest) (t .least)
+outOfRange (times x) = timesOutOfRange x
 
 -- 7: "a device, link, path (initiator, target) or entry (initiator, slot) given before; a target twice in one entry"
 unfoldable pub givenBefore : Plan → Item → Bool
@@ -42,6 +45,7 @@ givenBefore p (link l) = isLink p (l .num)
 givenBefore p (path x) = hasPath p (x .start) (x .end)
 givenBefore p (entry e) = any (standsAt (e .initiator) (e .slot)) (p .entries) || twice (e .targets)
 givenBefore p (timing t) = false
+givenBefore p (times x) = false
 
 -- 8: "a device or link not given before; a router as initiator or target"
 unfoldable pub notGiven : Plan → Item → Bool
@@ -50,6 +54,7 @@ notGiven p (link l) = not (isDevice p (l .one) && isDevice p (l .other))
 notGiven p (path x) = routeNotGiven p x
 notGiven p (entry e) = not (isNode p (e .initiator) && all (isNode p) (e .targets))
 notGiven p (timing t) = false
+notGiven p (times x) = false
 
 -- 9: "a path that makes a ninth initiator or is the 129th"
 unfoldable pub tooMany : Plan → Item → Bool
@@ -58,6 +63,7 @@ tooMany p (link l) = false
 tooMany p (path x) = not (isInitiator p (x .start)) && leb 8 (length (initiators p)) || leb 128 (length (p .paths))
 tooMany p (entry e) = false
 tooMany p (timing t) = false
+tooMany p (times x) = false
 
 -- 10: "links of a path are no walk"
 unfoldable pub noWalk : Plan → Item → Bool
@@ -66,6 +72,7 @@ noWalk p (link l) = false
 noWalk p (path x) = routeNoWalk p x
 noWalk p (entry e) = false
 noWalk p (timing t) = false
+noWalk p (times x) = false
 
 -- 11: "an entry's target has no path from its initiator"
 unfoldable pub noPath : Plan → Item → Bool
@@ -74,6 +81,7 @@ noPath p (link l) = false
 noPath p (path x) = false
 noPath p (entry e) = not (all (hasPath p (e .initiator)) (e .targets))
 noPath p (timing t) = false
+noPath p (times x) = false
 
 -- rows 6 to 11, of an item after plan p
 unfoldable pub itemRows : Plan → Item → List Row

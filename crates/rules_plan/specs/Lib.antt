@@ -1,5 +1,6 @@
 pub mod Plan
 pub mod Fields
+pub mod Sheet
 pub mod Meaning
 pub mod Verdict
 pub mod Judge

@@ -1,13 +1,15 @@
 -- What a plan means. Each notion that a later change redefines stands behind one name:
--- uses, fits, permits, covers, mayUse; entries are an argument where a later change picks some of them.
+-- uses, fitsIn, permits, covers, mayUse; entries are an argument where a later change picks some of them.
 use Prim.Native.Nat.{ℕ, _+_, _-_, _*_, _%_}
 use mathlib.Core.List.{List, [], _∷_}
 use mathlib.Core.Option.{Option, none, some}
 use mathlib.Core.Bool.{Bool, false, not, _&&_, _||_, cond}
+use lib.ListN.{length}
 use lib.Dec.{ltb, leb, eqb}
 use Rattle.lists.specs.Search.{any, keep, find, isIn, below64}
 use Rattle.lists.specs.Numbers.{firstFrom}
-use Rattle.rules_plan.specs.Plan.{Device, Link, Route, Entry, Timing, Plan}
+use Rattle.rules_plan.specs.Plan.{Device, Link, Route, Entry, Timing, Times, Plan}
+use Rattle.rules_plan.specs.Sheet.{sheet}
 
 unfoldable pub isDevice : Plan → ℕ → Bool
 isDevice p n = any (λ (d : Device). eqb n (d .num)) (p .devices)
@@ -75,9 +77,22 @@ uses p i t l = goesOver (p .paths) i t l
 unfoldable pub covers : Entry → ℕ → Bool
 covers e s = ltb ((s + 64 - e .slot) % 64) (e .span)
 
--- "with 256 × span at least the length": a transaction of initiator i with n data bytes to target t is within the time of k slots
+-- "R routers (links less one)"
+unfoldable pub routers : Route → ℕ
+routers r = length (r .links) - 1
+
+-- a transaction with n data bytes over route r, out and home, takes at most so long
+unfoldable pub takesAtMost : Times → ℕ → ℕ → Route → Bool
+takesAtMost x n most r = leb (sheet x (routers r) (routers r) n) most
+
+-- a transaction of initiator i with n data bytes to target t is within the time of k slots: "with 256 × span at least the length", and with
+-- a 06 "256 × span gives way to the largest length, up to 4,096, whose time fits span × slot length on that path"
 unfoldable pub fitsIn : Plan → ℕ → ℕ → ℕ → ℕ → Bool
-fitsIn p i t n k = leb n (256 * k)
+fitsIn p i t n k =
+    elim (p .times) [
+      | [] ↦ leb n (256 * k)
+      | x ∷ xs ↦ leb n 4_096 && any (λ (r : Route). leadsFrom i t r && takesAtMost x n (k * x .slot) r) (p .paths)
+    ]
 
 unfoldable pub fits : Plan → Entry → ℕ → ℕ → Bool
 fits p e t n = fitsIn p (e .initiator) t n (e .span)
@@ -122,3 +137,8 @@ leastOf (t ∷ ts) = t .least
 unfoldable pub greatestOf : List Timing → ℕ
 greatestOf [] = 0
 greatestOf (t ∷ ts) = t .greatest
+
+-- "the rate, latencies and slot length", all 0 where a plan carries none
+unfoldable pub timesOf : List Times → Times
+timesOf [] = record { rate = 0; a = 0; d = 0; f = 0; g = 0; slot = 0 }
+timesOf (x ∷ xs) = x

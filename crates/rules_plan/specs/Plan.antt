@@ -1,4 +1,4 @@
--- The plan: what the fields of a plan file give, in five lists. A field adds one item to one of them.
+-- The plan: what the fields of a plan file give, in six lists. A field adds one item to one of them.
 use Prim.Native.Nat.{ℕ, _+_, _*_}
 use mathlib.Core.List.{List, [], _∷_, _++_}
 use lib.ListN.{getD}
@@ -46,31 +46,44 @@ pub record Timing : Type 0 where
   pub least : ℕ
   pub greatest : ℕ
 
+-- "the rate, latencies and slot length": Mbit/s, and nanoseconds by the letters of document 000 section 4
+pub record Times : Type 0 where
+  pub rate : ℕ
+  pub a : ℕ
+  pub d : ℕ
+  pub f : ℕ
+  pub g : ℕ
+  pub slot : ℕ
+
 pub record Plan : Type 0 where
   pub devices : List Device
   pub links : List Link
   pub paths : List Route
   pub entries : List Entry
   pub timings : List Timing
+  pub times : List Times
 
 unfoldable pub blank : Plan
-blank = record { devices = []; links = []; paths = []; entries = []; timings = [] }
+blank = record { devices = []; links = []; paths = []; entries = []; timings = []; times = [] }
 
 -- the plan with one list replaced
 abbrev pub withDevices : List Device → Plan → Plan
-withDevices ds p = record { devices = ds; links = p .links; paths = p .paths; entries = p .entries; timings = p .timings }
+withDevices ds p = record { devices = ds; links = p .links; paths = p .paths; entries = p .entries; timings = p .timings; times = p .times }
 
 abbrev pub withLinks : List Link → Plan → Plan
-withLinks ls p = record { devices = p .devices; links = ls; paths = p .paths; entries = p .entries; timings = p .timings }
+withLinks ls p = record { devices = p .devices; links = ls; paths = p .paths; entries = p .entries; timings = p .timings; times = p .times }
 
 abbrev pub withPaths : List Route → Plan → Plan
-withPaths xs p = record { devices = p .devices; links = p .links; paths = xs; entries = p .entries; timings = p .timings }
+withPaths xs p = record { devices = p .devices; links = p .links; paths = xs; entries = p .entries; timings = p .timings; times = p .times }
 
 abbrev pub withEntries : List Entry → Plan → Plan
-withEntries es p = record { devices = p .devices; links = p .links; paths = p .paths; entries = es; timings = p .timings }
+withEntries es p = record { devices = p .devices; links = p .links; paths = p .paths; entries = es; timings = p .timings; times = p .times }
 
 abbrev pub withTimings : List Timing → Plan → Plan
-withTimings ts p = record { devices = p .devices; links = p .links; paths = p .paths; entries = p .entries; timings = ts }
+withTimings ts p = record { devices = p .devices; links = p .links; paths = p .paths; entries = p .entries; timings = ts; times = p .times }
+
+abbrev pub withTimes : List Times → Plan → Plan
+withTimes xs p = record { devices = p .devices; links = p .links; paths = p .paths; entries = p .entries; timings = p .timings; times = xs }
 
 -- what one field gives
 pub data Item : Type 0 where
@@ -79,6 +92,7 @@ pub data Item : Type 0 where
   path : Route → Item
   entry : Entry → Item
   timing : Timing → Item
+  times : Times → Item
 
 -- the plan with one more item, at the end of its list
 unfoldable pub grow : Plan → Item → Plan
@@ -87,3 +101,4 @@ grow p (link l) = withLinks (p .links ++ (l ∷ [])) p
 grow p (path x) = withPaths (p .paths ++ (x ∷ [])) p
 grow p (entry e) = withEntries (p .entries ++ (e ∷ [])) p
 grow p (timing t) = withTimings (p .timings ++ (t ∷ [])) p
+grow p (times x) = withTimes (p .times ++ (x ∷ [])) p

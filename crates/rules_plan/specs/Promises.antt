@@ -1,14 +1,15 @@
 -- What is proved of the definitions, each promise a type that reads like the sentence it stands for.
 use mathlib.Core.Path.{_≡_}
 use mathlib.Core.Logic.{_↔_}
-use mathlib.Core.List.{List, List·Memᴰ}
+use mathlib.Core.List.{List, [], List·Memᴰ}
 use mathlib.Core.Bool.{true}
 use Prim.Native.Nat.{ℕ, _+_, _*_, _%_, _≤_, _<_}
 use lib.ListN.{length}
 use Rattle.rules_plan.specs.declared.Verdict.{Verdict}
-use Rattle.rules_plan.specs.Plan.{Route, Entry, Plan}
-use Rattle.rules_plan.specs.Meaning.{isWalk, covers, uses, permits}
+use Rattle.rules_plan.specs.Plan.{Route, Entry, Times, Plan}
+use Rattle.rules_plan.specs.Meaning.{isWalk, covers, uses, routers, permits}
 use Rattle.rules_plan.specs.Verdict.{number}
+use Rattle.rules_plan.specs.Sheet.{sheet}
 use Rattle.rules_plan.specs.Judge.{judge}
 use Rattle.rules_plan.specs.Canon.{written, given, planOf, SamePlan}
 use Rattle.rules_plan.specs.Good.{Bytes, Good}
@@ -37,9 +38,20 @@ pub record OnPath (p : Plan) (i t l : ℕ) : Type 0 where
 unfoldable pub UsesAsWorded : Type 0
 UsesAsWorded = (p : Plan) (i t l : ℕ) → (uses p i t l ≡ true) ↔ OnPath p i t l
 
--- "permits the target with 256 × span at least the length"
+-- "with 256 × span at least the length"; and of a plan that carries its times "256 × span gives way to the largest length, up to 4,096,
+-- whose time fits span × slot length on that path; a path that not even length 0 fits is not permitted"
+pub data Short (p : Plan) (e : Entry) (t n : ℕ) : Type 0 where
+  by-span : p .times ≡ [] → n ≤ 256 * e .span → Short p e t n
+  by-time : {x : Times} {r : Route} → List·Memᴰ x (p .times) → List·Memᴰ r (p .paths) → e .initiator ≡ r .start → t ≡ r .end
+      → n ≤ 4_096 → sheet x (routers r) (routers r) n ≤ e .span * x .slot → Short p e t n
+
+-- "permits the target with" such a length
 unfoldable pub PermitsAsWorded : Type 0
-PermitsAsWorded = (p : Plan) (e : Entry) (t n : ℕ) → (permits p e t n ≡ true) ↔ (List·Memᴰ t (e .targets) × (n ≤ 256 * e .span))
+PermitsAsWorded = (p : Plan) → length (p .times) ≤ 1 → (e : Entry) (t n : ℕ) → (permits p e t n ≡ true) ↔ (List·Memᴰ t (e .targets) × Short p e t n)
+
+-- "the largest length …" is told by each length below it: what is longer takes longer.
+unfoldable pub LongerTakesLonger : Type 0
+LongerTakesLonger = (x : Times) (out home m n : ℕ) → m ≤ n → sheet x out home m ≤ sheet x out home n
 
 -- "A path is a walk": what is computed of links is the walk in words.
 unfoldable pub WalksAsWorded : Type 0
@@ -66,7 +78,7 @@ pub record ComesBack (s : List ℕ) : Type 0 where
   pub plan : planOf (written (planOf s)) ≡ planOf s
   pub bytes : written (planOf (written (planOf s))) ≡ written (planOf s)
   pub size : length (written (planOf s)) ≡ length s
-  pub most : length (written (planOf s)) ≤ 13_643
+  pub most : length (written (planOf s)) ≤ 16_384
 
 unfoldable pub WrittenOutComesBack : Type 0
 WrittenOutComesBack = (s : List ℕ) → Accepted? s → ComesBack s
@@ -79,6 +91,7 @@ pub record Promises : Type 0 where
   pub covers : CoversAsWorded
   pub uses : UsesAsWorded
   pub permits : PermitsAsWorded
+  pub longer : LongerTakesLonger
   pub walks : WalksAsWorded
   pub words : VerdictsAsWorded
   pub exactly : AcceptedExactly

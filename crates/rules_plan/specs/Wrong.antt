@@ -5,7 +5,7 @@ use mathlib.Core.List.{List, [], _∷_, List·Memᴰ}
 use mathlib.Core.Option.{some}
 use Prim.Native.Nat.{ℕ, _+_, _≤_, _<_}
 use lib.ListN.{length}
-use Rattle.rules_plan.specs.Plan.{Device, Link, Route, Entry, Timing, Plan, Item, device, link, path, entry, timing}
+use Rattle.rules_plan.specs.Plan.{Device, Link, Route, Entry, Timing, Times, Plan, Item, device, link, path, entry, timing, times}
 use Rattle.rules_plan.specs.Fields.{tagAt, sizeAt, nextAt, itemAt}
 use Rattle.rules_plan.specs.Walk.{IsRouter, Twice, Walk}
 
@@ -16,6 +16,7 @@ pub data Allowed : ℕ → ℕ → Type 0 where
   tag-03 : {size : ℕ} → 3 ≤ size → size ≤ 10 → Allowed 3 size
   tag-04 : {size : ℕ} → 4 ≤ size → size ≤ 19 → Allowed 4 size
   tag-05 : Allowed 5 8
+  tag-06 : Allowed 6 22
 
 -- the plan has a device or a link with number n, a path from i to t, an entry of i in slot v
 abbrev pub IsDevice : Plan → ℕ → Type 0
@@ -48,6 +49,7 @@ endsOf (link l) = []
 endsOf (path x) = x .start ∷ x .end ∷ []
 endsOf (entry e) = e .initiator ∷ e .targets
 endsOf (timing t) = []
+endsOf (times x) = []
 
 unfoldable pub devicesOf : Item → List ℕ
 devicesOf (device d) = []
@@ -55,6 +57,7 @@ devicesOf (link l) = l .one ∷ l .other ∷ []
 devicesOf (path x) = endsOf (path x)
 devicesOf (entry e) = endsOf (entry e)
 devicesOf (timing t) = []
+devicesOf (times x) = []
 
 unfoldable pub linksOf : Item → List ℕ
 linksOf (device d) = []
@@ -62,10 +65,12 @@ linksOf (link l) = []
 linksOf (path x) = x .links
 linksOf (entry e) = []
 linksOf (timing t) = []
+linksOf (times x) = []
 
 -- rows 6 to 11, of an item after plan p
 pub data WrongItem (p : Plan) : Item → ℕ → Type 0 where
-  -- 6: "a device, link, kind, slot, span or interval out of range; a link joining a device to itself; a path with initiator equal to target"
+  -- 6: "a device, link, kind, slot, span or interval out of range; a link joining a device to itself; a path with initiator equal to target";
+  -- "S outside 2 to 400, or a latency or slot length over 1,000,000, is 6"
   device-over : {d : Device} → 63 < d .num → WrongItem p (device d) 6
   named-device-over : {x : Item} {n : ℕ} → List·Memᴰ n (devicesOf x) → 63 < n → WrongItem p x 6
   link-over : {l : Link} → 63 < l .num → WrongItem p (link l) 6
@@ -77,6 +82,9 @@ pub data WrongItem (p : Plan) : Item → ℕ → Type 0 where
   greatest-under : {t : Timing} → t .greatest < 1 → WrongItem p (timing t) 6
   greatest-over : {t : Timing} → 2_147_483_647 < t .greatest → WrongItem p (timing t) 6
   least-over : {t : Timing} → t .greatest < t .least → WrongItem p (timing t) 6
+  rate-under : {x : Times} → x .rate < 2 → WrongItem p (times x) 6
+  rate-over : {x : Times} → 400 < x .rate → WrongItem p (times x) 6
+  time-over : {x : Times} {n : ℕ} → List·Memᴰ n (x .a ∷ x .d ∷ x .f ∷ x .g ∷ x .slot ∷ []) → 1_000_000 < n → WrongItem p (times x) 6
   to-itself : {l : Link} → l .one ≡ l .other → WrongItem p (link l) 6
   ends-equal : {x : Route} → x .start ≡ x .end → WrongItem p (path x) 6
   -- 7: "a device, link, path (initiator, target) or entry (initiator, slot) given before; a target twice in one entry"
@@ -102,12 +110,13 @@ pub data Wrong (p : Plan) (s : List ℕ) (at before : ℕ) : ℕ → Type 0 wher
   -- 2: "under 3 bytes left for tag and length, or content runs past the end"
   under-three : length s < at + 3 → Wrong p s at before 2
   past-end : length s < nextAt s at → Wrong p s at before 2
-  -- 3: "tag not 01 to 05"
+  -- 3: "tag not 01 to 05"; "verdict 3 spares each tag a ticket adds": 06
   tag-under : tagAt s at < 1 → Wrong p s at before 3
-  tag-over : 5 < tagAt s at → Wrong p s at before 3
-  -- 4: "tag below the one before, or a second 05"
+  tag-over : 6 < tagAt s at → Wrong p s at before 3
+  -- 4: "tag below the one before, or a second 05"; "a second 06 is 4"
   tag-falls : tagAt s at < before → Wrong p s at before 4
   second-05 : before ≡ 5 → tagAt s at ≡ 5 → Wrong p s at before 4
+  second-06 : before ≡ 6 → tagAt s at ≡ 6 → Wrong p s at before 4
   -- 5: "length not allowed for the tag"
   not-allowed : (Allowed (tagAt s at) (sizeAt s at) → ⊥) → Wrong p s at before 5
   -- 6 to 11

@@ -1,5 +1,6 @@
 pub mod Sound
 pub mod FieldRows
+pub mod Sheets
 pub mod Ranges
 pub mod Lengths
 pub mod Items

@@ -42,6 +42,22 @@ pub enum Copied {
     Written { size: u16 },
 }
 
+// The sheet of a transaction: its refusal, or the sum of the terms of document 000 section 4 and those of them that are worked out, in
+// nanoseconds. `sheetNumbers` of specs/Sheet gives the number and values of each case.
+pub enum Sheet {
+    NoSheet {
+        number: u8,
+    },
+    Terms {
+        sum: u32,
+        b: u32,
+        c: u32,
+        e: u32,
+        h: u32,
+        i: u32,
+    },
+}
+
 // What is promised of the definitions. It does nothing: its contract is the theorem.
 pub fn promises()
     ensures { λ _. ⌜ Promises ⌝ }

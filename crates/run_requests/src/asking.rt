@@ -35,14 +35,11 @@ fn lacks(aims: &Aims, row: usize, target: u8) -> bool
     !has(all, target)
 }
 
-// 25: some entry of the row permits the target with so long a span as the request needs. None has a target over 63. The first is tried by
-// itself: a target that is permitted often is permitted there.
+// 25: some entry of the row permits the target with so long a span as the request needs. The first is tried by itself: a target that is
+// permitted often is permitted there.
 pub fn may_start(spans: &Spans, aims: &Aims, row: usize, target: u8, need: u8) -> bool
     ensures { λ r. ⌜ Tried (now (spans .entry)) (now (aims .entry)) row target need r ⌝ }
 {
-    if 64 <= target {
-        return false;
-    }
     if permits(
         targets_at(aims, row, 0),
         span_at(spans, row, 0),

@@ -56,7 +56,11 @@ pub fn request(
     if 1 < kind {
         return Answer::Refused { number: 23 };
     }
-    let need = least_span(length);
+    // No entry has a target over 63.
+    if 64 <= target {
+        return not_permitted(length);
+    }
+    let need = least_span(numbers, row, target, length);
     if !may_start(spans, aims, row, target, need) {
         return not_permitted(length);
     }

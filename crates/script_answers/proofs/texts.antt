@@ -2,3 +2,4 @@
 pub mod Printed
 pub mod Events
 pub mod Copies
+pub mod Sheets

@@ -6,7 +6,9 @@ use Prim.Native.Nat.{ℕ, _*_}
 use lib.ListN.{length, getD, take, drop}
 use lib.Dec.{eqb}
 use Rattle.rules_plan.specs.Print.{text, decimal}
+use Rattle.rules_plan.specs.declared.Sheet.{Sheet}
 use Rattle.rules_plan.specs.Copy.{Sized}
+use Rattle.rules_plan.specs.Sheet.{sheetNumbers}
 use Rattle.rules_box.specs.declared.Event.{Event}
 use Rattle.rules_box.specs.declared.Event.the-variants.{TimeCode, Request, Reply, Reading}
 use Rattle.rules_box.specs.declared.Watchdog.{Watchdog}
@@ -52,6 +54,10 @@ yesOrNo n = cond (eqb n 0) 0 1
 
 unfoldable pub watchdogLine : Watchdog → List ℕ
 watchdogLine w = numbersLine (w .last ∷ yesOrNo (w .seen) ∷ yesOrNo (w .reported) ∷ w .least ∷ w .greatest ∷ [])
+
+-- what the sheet prints, its number and the sum: "N NANOSECONDS"
+unfoldable pub sheetLine : Sheet → List ℕ
+sheetLine s = numbersLine (take 2 (sheetNumbers s))
 
 -- a buffer with a line at its front: the line's length, and the rest of the buffer as it was
 pub record Prints (line before after : List ℕ) (end : ℕ) : Type 0 where

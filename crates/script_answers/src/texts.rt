@@ -2,7 +2,7 @@
 ghost use mathlib.Core.Path.{_≡_};
 ghost use Prim.Native.Nat.{_*_, _≤_};
 ghost use lib.ListN.{length};
-ghost use Rattle.script_answers.specs.Texts.{ended, errorLine, numbersLine, bytesLine, eventLine, outLine, yesOrNo, watchdogLine, Prints};
+ghost use Rattle.script_answers.specs.Texts.{ended, errorLine, numbersLine, bytesLine, eventLine, outLine, yesOrNo, watchdogLine, sheetLine, Prints};
 ghost use Rattle.rules_plan.specs.Copy.{sized};
 ghost use Rattle.rules_box.specs.Answer.{Values};
 ghost use Rattle.rules_box.specs.Refuse.{recordSize};
@@ -13,6 +13,7 @@ use bytes_put::put_decimal;
 use rules_box::Event;
 use rules_box::Watchdog;
 use rules_plan::Copied;
+use rules_plan::Sheet;
 use script_hex::put_hex;
 use script_words::put_numbers;
 
@@ -125,6 +126,22 @@ pub fn put_copied(out: &mut [u8; 65600], copied: Copied, buffer: &[u8]) -> usize
         Copied::Written { size } => {
             let ns = [0, size as u32];
             put_bytes(out, &ns, part(buffer, 0, size as usize))
+        }
+    }
+}
+
+// The line of a sheet: its number, and the sum or 0.
+pub fn put_sheet(out: &mut [u8; 65600], sheet: Sheet) -> usize
+    ensures { λ r. ⌜ Prints (sheetLine sheet) (now (out .entry)) (now (out .exit)) r ⌝ }
+{
+    match sheet {
+        Sheet::NoSheet { number } => {
+            let ns = [number as u32, 0];
+            put_row(out, &ns)
+        }
+        Sheet::Terms { sum, b, c, e, h, i } => {
+            let ns = [0, sum];
+            put_row(out, &ns)
         }
     }
 }

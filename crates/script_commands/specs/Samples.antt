@@ -4,7 +4,7 @@ use mathlib.Core.Path.{_≡_}
 use mathlib.Core.List.{List, [], _∷_, map}
 use Rattle.rules_plan.specs.Print.{text}
 use Rattle.script_commands.specs.declared.command.Command.{Command}
-use Rattle.script_commands.specs.declared.command.Command.the-variants.{Skip, Bad, Load, Clear, TimeCode, Request, Reply, Reading, Out, Watchdog, SetWatchdog}
+use Rattle.script_commands.specs.declared.command.Command.the-variants.{Skip, Bad, Load, Clear, TimeCode, Request, Reply, Reading, Out, Watchdog, SetWatchdog, Sheet}
 use Rattle.script_commands.specs.Script.{commandOf}
 
 unfoldable pub samples : List (String × Command)
@@ -38,6 +38,14 @@ samples =
     ∷ ("out 32768", Out 32_768)
     ∷ ("out 32769", Bad)
     ∷ ("setwd 1 0 2 90 110", SetWatchdog 1 0 2 90 110)
+    ∷ ("sheet 4 200 256 5000 5000 5000 5000", Sheet 4 200 256 5_000 5_000 5_000 5_000)
+    ∷ ("sheet 255 65535 65535 1 2 3 4294967295", Sheet 255 65_535 65_535 1 2 3 4_294_967_295)
+    ∷ ("sheet 256 200 256 1 2 3 4", Bad)
+    ∷ ("sheet 4 65536 256 1 2 3 4", Bad)
+    ∷ ("sheet 4 200 65536 1 2 3 4", Bad)
+    ∷ ("sheet 4 200 256 1 2 3 4294967296", Bad)
+    ∷ ("sheet 4 200 256 1 2 3", Bad)
+    ∷ ("sheet 4 200 256 1 2 3 4 5", Bad)
     -- the bytes
     ∷ ("load -", Load 5)
     ∷ ("load 5", Bad)

@@ -11,7 +11,7 @@ use Rattle.script_hex.specs.Hex.{bytesOf}
 use Rattle.script_commands.specs.declared.command.Kind.{Kind}
 use Rattle.script_commands.specs.declared.command.Kind.the-variants as kind
 use Rattle.script_commands.specs.declared.command.Command.{Command}
-use Rattle.script_commands.specs.declared.command.Command.the-variants.{Skip, Bad, Load, Clear, TimeCode, Request, Reply, Reading, Out, Watchdog, SetWatchdog}
+use Rattle.script_commands.specs.declared.command.Command.the-variants.{Skip, Bad, Load, Clear, TimeCode, Request, Reply, Reading, Out, Watchdog, SetWatchdog, Sheet}
 
 -- the greatest numbers that may stand behind a command's name, and the command that they make
 unfoldable pub mosts : Kind → List ℕ
@@ -26,6 +26,8 @@ mosts kind.Reading = 4_294_967_295 ∷ []
 mosts kind.Out = 32_768 ∷ []
 -- "LAST SEEN REPORTED LEAST GREATEST"
 mosts kind.SetWatchdog = 4_294_967_295 ∷ 4_294_967_295 ∷ 4_294_967_295 ∷ 4_294_967_295 ∷ 4_294_967_295 ∷ []
+-- "R S D A DD F G", "(R 0 to 255, S, D 0 to 65,535, latencies 0 to 4,294,967,295)"
+mosts kind.Sheet = 255 ∷ 65_535 ∷ 65_535 ∷ 4_294_967_295 ∷ 4_294_967_295 ∷ 4_294_967_295 ∷ 4_294_967_295 ∷ []
 
 unfoldable pub made : Kind → List ℕ → Command
 made kind.TimeCode ns = TimeCode (getD ns 0 0) (getD ns 1 0) (getD ns 2 0)
@@ -34,6 +36,7 @@ made kind.Reply ns = Reply (getD ns 0 0) (getD ns 1 0) (getD ns 2 0)
 made kind.Reading ns = Reading (getD ns 0 0)
 made kind.Out ns = Out (getD ns 0 0)
 made kind.SetWatchdog ns = SetWatchdog (getD ns 0 0) (getD ns 1 0) (getD ns 2 0) (getD ns 3 0) (getD ns 4 0)
+made kind.Sheet ns = Sheet (getD ns 0 0) (getD ns 1 0) (getD ns 2 0) (getD ns 3 0) (getD ns 4 0) (getD ns 5 0) (getD ns 6 0)
 
 -- the table: a command's name, and the command by the words behind it
 unfoldable pub numbered : Kind → List (List ℕ) → Command
@@ -62,6 +65,7 @@ commands =
     ∷ (text "out", numbered kind.Out)
     ∷ (text "wd", alone Watchdog)
     ∷ (text "setwd", numbered kind.SetWatchdog)
+    ∷ (text "sheet", numbered kind.Sheet)
     ∷ []
 
 unfoldable pub named : List Row → List ℕ → List (List ℕ) → Command

@@ -49,7 +49,27 @@ pub enum Command {
         least: u32,
         greatest: u32,
     },
+    Sheet {
+        routers: u8,
+        rate: u16,
+        length: u16,
+        a: u32,
+        d: u32,
+        f: u32,
+        g: u32,
+    },
 }
+
+// "R 0 to 255, S, D 0 to 65,535, latencies 0 to 4,294,967,295"
+const SHEET: [u32; 7] = [
+    255,
+    65_535,
+    65_535,
+    4_294_967_295,
+    4_294_967_295,
+    4_294_967_295,
+    4_294_967_295,
+];
 
 // The commands that are a name and numbers.
 enum Kind {
@@ -59,6 +79,7 @@ enum Kind {
     Reading,
     Out,
     SetWatchdog,
+    Sheet,
 }
 
 // "load HEX"
@@ -96,7 +117,7 @@ fn numbered(line: &[u8], end: usize, bounds: &[u32], kind: Kind) -> Command
     requires { ⌜ (end ≤ length (now line)) × (now bounds ≡ mosts kind) ⌝ }
     ensures { λ r. ⌜ r ≡ numbered kind (behindWord (drop end (now (line .entry)))) ⌝ }
 {
-    let mut ns = [0u32; 5];
+    let mut ns = [0u32; 7];
     if !numbers(line, end, bounds, &mut ns) {
         return Command::Bad;
     }
@@ -125,6 +146,15 @@ fn numbered(line: &[u8], end: usize, bounds: &[u32], kind: Kind) -> Command
             reported: ns[2],
             least: ns[3],
             greatest: ns[4],
+        },
+        Kind::Sheet => Command::Sheet {
+            routers: ns[0] as u8,
+            rate: ns[1] as u16,
+            length: ns[2] as u16,
+            a: ns[3],
+            d: ns[4],
+            f: ns[5],
+            g: ns[6],
         },
     }
 }
@@ -161,6 +191,9 @@ fn named(line: &[u8], end: usize) -> Command
     }
     if same(name, b"setwd") {
         return numbered(line, end, &[4_294_967_295; 5], Kind::SetWatchdog);
+    }
+    if same(name, b"sheet") {
+        return numbered(line, end, &SHEET, Kind::Sheet);
     }
     Command::Bad
 }

@@ -9,6 +9,8 @@ use Rattle.rules_plan.specs.Judge.{judge}
 use Rattle.rules_plan.specs.Print.{text}
 use Rattle.rules_plan.specs.Print as print
 use Rattle.rules_plan.specs.Copy.{sized, copyAnswer, copied}
+use Rattle.rules_plan.specs.Sheet.{sheetAnswer}
+use Rattle.time_sheet.specs.Paced.{paced}
 use Rattle.memory_plan.specs.PlanHeld.{PlanHeld}
 use Rattle.rules_box.specs.declared.Event.{Event}
 use Rattle.rules_box.specs.declared.Event.the-variants as event
@@ -18,8 +20,8 @@ use Rattle.rules_box.specs.Answer.{values}
 use Rattle.box_calls.specs.Calls.{Memory, ClearLeaves, LoadLeaves, Lent, StepLeaves}
 use Rattle.script_hex.specs.Hex.{bytesOf}
 use Rattle.script_commands.specs.declared.command.Command.{Command}
-use Rattle.script_commands.specs.declared.command.Command.the-variants.{Skip, Bad, Load, Clear, TimeCode, Request, Reply, Reading, Out, Watchdog, SetWatchdog}
-use Rattle.script_answers.specs.Texts.{ended, errorLine, eventLine, outLine, watchdogLine, Prints}
+use Rattle.script_commands.specs.declared.command.Command.the-variants.{Skip, Bad, Load, Clear, TimeCode, Request, Reply, Reading, Out, Watchdog, SetWatchdog, Sheet}
+use Rattle.script_answers.specs.Texts.{ended, errorLine, eventLine, outLine, watchdogLine, sheetLine, Prints}
 
 -- what is kept between commands: "The program keeps the five numbers between commands, as a box's caller does."
 pub record Kept : Type 0 where
@@ -68,6 +70,7 @@ Replied (Out room) line n before after printed = (after ≡ before) × WrittenOu
 Replied Watchdog line n before after printed = (after ≡ before) × (printed ≡ watchdogLine (before .five))
 Replied (SetWatchdog last seen reported least greatest) line n before after printed =
     (after ≡ kept (before .memory) (fiveOf last seen reported least greatest)) × (printed ≡ ended (text "OK"))
+Replied (Sheet r s size a d f g) line n before after printed = (after ≡ before) × (printed ≡ sheetLine (sheetAnswer (paced s a d f g) r r size))
 
 -- what is printed stands at the front of a buffer
 pub record Answers (Told : List ℕ → Type 0) (before after : List ℕ) (end : ℕ) : Type 0 where

@@ -18,6 +18,7 @@ use run_events::values::values_of;
 use script_answers::texts::put_copied;
 use script_answers::texts::put_error;
 use script_answers::texts::put_event;
+use script_answers::texts::put_sheet;
 use script_answers::texts::put_watchdog;
 use script_answers::texts::put_word;
 use script_commands::command::Command;
@@ -386,6 +387,19 @@ pub fn answer(
                 end,
                 watchdog: given,
             }
+        }
+        Command::Sheet {
+            routers,
+            rate,
+            length,
+            a,
+            d,
+            f,
+            g,
+        } => {
+            let sheet = time_sheet::sheet(routers, routers, rate, length, a, d, f, g);
+            let end = put_sheet(out, sheet);
+            Answered { end, watchdog }
         }
     }
 }

@@ -7,6 +7,8 @@ use Prim.Native.Nat.{ℕ, _≤_}
 use mathlib.Core.List.{List, _++_}
 use lib.ListN.{length, drop}
 use Rattle.rules_plan.specs.declared.Copied.{Copied}
+use Rattle.rules_plan.specs.Plan.{nth}
+use Rattle.rules_plan.specs.Sheet.{sheetAnswer, sheetNumbers}
 use Rattle.rules_plan.specs.Judge.{judge}
 use Rattle.rules_plan.specs.Print as print
 use Rattle.memory_plan.specs.Memory as plan
@@ -20,12 +22,13 @@ use Rattle.rules_box.specs.Answer.{values}
 use Rattle.run_events.specs.Values.{listed}
 use Rattle.box_calls.specs.Calls.{Memory, At, LoadLeaves}
 use Rattle.memory_run.specs.Memory.{Steps}
+use Rattle.time_sheet.specs.Paced.{paced}
 use Rattle.c_numbers.specs.Numbers.{verdictNumbers, verdictOf, sizedNumbers}
 
 -- `spwd_c_version`: one more with each change of what is lent, of the numbers that calls take and give back, or of the bytes of a plan file
 -- or a record. `c/spwd.h` and `rust/spwd` name the version that they are written for.
 abbrev pub interfaceVersion : ℕ
-interfaceVersion = 1
+interfaceVersion = 2
 
 -- `spwd_c_load`
 pub record Loads (file : List ℕ) (m′ : Memory) (w′ : Watchdog) (verdict′ : List ℕ) : Type 0 where
@@ -90,3 +93,8 @@ pub record HoldsIt (file : List ℕ) (r : ℕ) (sets ends rows reach paths spans
   pub most : r ≤ 1
   pub says : (r ≡ 1) ↔ HoldsPlanOf file sets ends rows reach paths spans aims numbers
   pub beside : plan.Holds (planLeft file) sets′ ends′ rows′ reach′ paths′ spans′ aims′ numbers′
+
+-- `spwd_c_sheet`: the seven numbers of the sheet over so many routers there and back, at a rate and with the latencies a, d, f and g. It is lent no
+-- box.
+pub record SheetTold (out home rate size : ℕ) (latencies answer′ : List ℕ) : Type 0 where
+  pub numbers : answer′ ≡ sheetNumbers (sheetAnswer (paced rate (nth latencies 0) (nth latencies 1) (nth latencies 2) (nth latencies 3)) out home size)

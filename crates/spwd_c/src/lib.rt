@@ -3,4 +3,5 @@ pub mod ask;
 pub mod call;
 pub mod event;
 pub mod out;
+pub mod sheet;
 pub mod version;

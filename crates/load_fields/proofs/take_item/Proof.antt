@@ -1,7 +1,8 @@
 -- `fields::take_item` meets its contract: the tag's row of the table gives the item and the bounds of its content's length, and
 -- the arm's function judges it and keeps it. Assumes nothing.
 use mathlib.Core.Path.{_≡_, refl, sym, ap, ap₂, _∙_}
-use Prim.Native.Nat.{_≤_}
+use mathlib.Core.Logic.{_≢_}
+use Prim.Native.Nat.{ℕ, _≤_}
 use native.Mathlib.Omega.{arith}
 use native.Mathlib.Decide.{ℕ-discrete}
 use lib.ListN.{length, length-drop}
@@ -10,10 +11,10 @@ use Rattle.lists.specs.Search.{find}
 use Rattle.lists.specs.laws.Bools.{not-both}
 use Rattle.lists.specs.laws.Parts.{from-to-end}
 use Rattle.rules_plan.specs.Plan.{nth}
-use Rattle.rules_plan.specs.Fields.{tags, tagOf, asDevice, asLink, asPath, asEntry, asTiming}
-use Rattle.rules_plan.specs.laws.Items.{no-entries}
+use Rattle.rules_plan.specs.Fields.{tags, tagOf, asDevice, asLink, asPath, asEntry, asTiming, asTimes}
+use Rattle.rules_plan.specs.laws.Items.{no-entries, no-times}
 use Rattle.memory_plan.specs.Take.{pathItem, entryItem, timingItem}
-use Rattle.load_fields.proofs.Taking.{reads-as, between, device-taken, link-taken, path-taken, entry-taken, timing-taken, as-item}
+use Rattle.load_fields.proofs.Taking.{reads-as, between, device-taken, link-taken, path-taken, entry-taken, timing-taken, times-taken, as-item}
 use Rattle.file_field.specs.laws.Tags.{none-allowed}
 use Rattle.load_fields.proofs.take_item.Statement.{statement}
 use Rattle.load_fields.proofs.take_item.Tie as tie
@@ -35,19 +36,26 @@ sized-4 : (c : tie.At-match-keys4) → 4 ≤ length (c .before .before .args .co
 unfolding tagOf tags find
 sized-4 c = (between (c .match .keys4) refl _ (c .before .before .pre)) .0
 
--- a tag with an allowed length that is none of the four is 5
-last-tag : (c : tie.At-match-rest) → c .before .before .args .tag ≡ 5
-last-tag c = go (ℕ-discrete _ 5)
+sized-5 : (c : tie.At-match-keys5) → 8 ≤ length (c .before .before .args .content .now)
+unfolding tagOf tags find
+sized-5 c = (between (c .match .keys5) refl _ (c .before .before .pre)) .0
+
+-- a tag with an allowed length that is none of the five is 6
+last-tag : (c : tie.At-match-rest) → c .before .before .args .tag ≡ 6
+last-tag c = go (ℕ-discrete _ 6)
   where
-    go : Dec (c .before .before .args .tag ≡ 5) → c .before .before .args .tag ≡ 5
+    last : (n : ℕ) → n ≢ 1 → n ≢ 2 → n ≢ 3 → n ≢ 4 → n ≢ 5 → 1 ≤ n → n ≤ 6 → n ≡ 6
+    last n a b c d e l h = omega arith
+
+    go : Dec (c .before .before .args .tag ≡ 6) → c .before .before .args .tag ≡ 6
     go (yes e) = e
     go (no e) =
         let r = c .match .rest in
-        not-both (c .before .before .pre) (sym (none-allowed _ _ (λ l h. omega (arith, r .1, r .0 .1, r .0 .0 .1, r .0 .0 .0 .1))))
+        not-both (c .before .before .pre) (sym (none-allowed _ _ (λ l h. e (last _ (r .0 .0 .0 .0 .1) (r .0 .0 .0 .1) (r .0 .0 .1) (r .0 .1) (r .1) l h))))
 
-sized-5 : (c : tie.At-match-rest) → 8 ≤ length (c .before .before .args .content .now)
+sized-6 : (c : tie.At-match-rest) → 22 ≤ length (c .before .before .args .content .now)
 unfolding tagOf tags find
-sized-5 c = (between (last-tag c) refl _ (c .before .before .pre)) .0
+sized-6 c = (between (last-tag c) refl _ (c .before .before .pre)) .0
 
 shared-slice-read-device : tie.Need-shared-slice-read-device
 shared-slice-read-device c = omega (arith, sized-1 (c .before .before))
@@ -124,6 +132,9 @@ four-at-requires-2 c κs = omega (arith, sized-5 (c .before .before))
 timing-requires : tie.Need-timing-requires
 timing-requires c κs = search needs
 
+take-times-requires : tie.Need-take-times-requires
+take-times-requires c κs = sized-6 (c .before .before .before)
+
 returns : tie.Need-returns
 unfolding tagOf tags find asDevice
 returns c size p x fair next is old =
@@ -142,7 +153,8 @@ returns-3 c size p x fair next is old =
     let b = c .before .before .before .before .before .before .before .before .before .before in
     let s = b .before .before .args .content .now in
     as-item (reads-as (b .match .keys3) refl s x is ∙ ap (pathItem (nth s 0) (nth s 1)) (sym (from-to-end 2 s)))
-    (path-taken old _ (no-entries p _ (next .upTo) (omega (arith, b .match .keys3))) (c .path .ensures size p fair (old .sets) (old .ends) (old .rows) (old .reach) (old .paths) (old .numbers)))
+    (path-taken old _ (no-entries p _ (next .upTo) (omega (arith, b .match .keys3)))
+    (c .path .ensures size p fair (old .sets) (old .ends) (old .rows) (old .reach) (old .paths) (old .numbers) (no-times p _ (next .upTo) (omega (arith, b .match .keys3)))))
 
 returns-4 : tie.Need-returns-4
 unfolding tagOf tags find asEntry
@@ -157,8 +169,15 @@ unfolding tagOf tags find asTiming
 returns-5 c size p x fair next is old =
     let b = c .before .before .before .before in
     let s = b .before .before .args .content .now in
-    as-item (reads-as (last-tag b) refl s x is ∙ ap₂ timingItem (sym (c .before .before .four-at .ensures)) (sym (c .before .four-at2 .ensures)))
-    (timing-taken old _ (c .timing .ensures size p (old .numbers) (next .once (last-tag b))))
+    as-item (reads-as (b .match .keys5) refl s x is ∙ ap₂ timingItem (sym (c .before .before .four-at .ensures)) (sym (c .before .four-at2 .ensures)))
+    (timing-taken old _ (c .timing .ensures size p (old .numbers) (next .timings (b .match .keys5))))
+
+returns-6 : tie.Need-returns-6
+unfolding tagOf tags find asTimes
+returns-6 c size p x fair next is old =
+    let b = c .before .before .before .before in
+    let s = b .before .before .args .content .now in
+    as-item (reads-as (last-tag b) refl s x is) (times-taken old _ (c .take-times .ensures size p fair (old .rows) (old .paths) (old .numbers) (next .times (last-tag b))))
 
 pub take-item-spec : {M : Type 1} → statement M
 take-item-spec =
@@ -187,8 +206,10 @@ take-item-spec =
     four-at-requires
     four-at-requires-2
     timing-requires
+    take-times-requires
     returns
     returns-2
     returns-3
     returns-4
-    returns-5)
+    returns-5
+    returns-6)

@@ -1,6 +1,6 @@
 -- Memory that holds a plan holds, once a path without a fault is kept, the plan with the path.
 use mathlib.Core.Path.{_≡_, sym, ap, _∙_}
-use mathlib.Core.List.{List}
+use mathlib.Core.List.{List, []}
 use Prim.Native.Nat.{ℕ, _≤_}
 use native.Mathlib.Omega.{arith}
 use lib.ListN.{length}
@@ -36,7 +36,7 @@ Kept rows reach paths numbers x rows′ reach′ paths′ numbers′ =
     × (numbers′ ≡ keptNumbers rows numbers (x .start))
 
 pub kept-plan : (size : ℕ) (p : Plan) → Fair p → (x : Route) → 0 ≡ itemFault p (path x) → length (x .links) ≤ 8
-    → {rows reach paths numbers rows′ reach′ paths′ numbers′ : List ℕ} → rows ≡ rowsOf p → reach ≡ reachOf p → paths ≡ pathsOf p → numbers ≡ numbersWith size p
+    → {rows reach paths numbers rows′ reach′ paths′ numbers′ : List ℕ} → rows ≡ rowsOf p → reach ≡ reachOf p → paths ≡ pathsOf p → numbers ≡ numbersWith size p → p .times ≡ []
     → (length rows ≡ 8 → length reach ≡ 8 → length paths ≡ 1408 → Kept rows reach paths numbers x rows′ reach′ paths′ numbers′)
     → (0 ≡ itemFault p (path x))
     × (rows′ ≡ rowsOf (taken p (path x)))
@@ -44,7 +44,7 @@ pub kept-plan : (size : ℕ) (p : Plan) → Fair p → (x : Route) → 0 ≡ ite
     × (paths′ ≡ pathsOf (taken p (path x)))
     × (numbers′ ≡ numbersWith size (taken p (path x)))
 unfolding numbersWith
-kept-plan size p f x z l a b c d h =
+kept-plan size p f x z l a b c d none-yet h =
     let g = faultless p (path x) (sym z) in
     let k = h (ap length a ∙ rows-length p f) (ap length b ∙ reach-length p) (ap length c ∙ paths-length p f) in
     rw (taken-grows p (path x) (sym z)) (
@@ -52,5 +52,5 @@ kept-plan size p f x z l a b c d h =
       k .0 ∙ (rw (a, d) (rows-kept p f x g)),
       k .1 ∙ (rw (a, b, d) (reach-kept p f x g)),
       k .2 (inserted-path p f x g .place) (rw (c, d) (path-place p f x g)) ∙ (rw (c, d) (paths-kept p f x g l)),
-      k .3 ∙ (rw (a, d) (numbers-kept p f x g size)),
+      k .3 ∙ (rw (a, d) (numbers-kept p f x g none-yet size)),
     )

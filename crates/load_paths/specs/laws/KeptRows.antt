@@ -24,6 +24,7 @@ use Rattle.rules_plan.specs.laws.Chain.{Passes}
 use Rattle.rules_plan.specs.laws.Ranges.{route-range}
 use Rattle.rules_plan.specs.laws.Initiators.{initiator-in}
 use Rattle.memory_plan.specs.Memory.{rowsOf, numbersWith}
+use Rattle.memory_plan.specs.laws.Costs.{no-costs}
 use Rattle.load_paths.specs.Keep.{keptNumbers}
 use Rattle.memory_plan.specs.Rows.{rowAmong}
 use Rattle.load_path_places.specs.Places.{rowPlace, withRow}
@@ -89,13 +90,13 @@ module _ (p : Plan) (f : Fair p) (x : Route) (g : Passes p (path x)) where
           ∙ sym (padded-putIn 8 (r .place) 0 (i ∷ []) (initiators p) (r .within) (omega (arith, room e))) ∙ ap (padded 8 0) (sym (r .new))
 
   -- the numbers
-  pub numbers-kept : (size : ℕ) → keptNumbers (rowsOf p) (numbersWith size p) (x .start) ≡ numbersWith size (grow p (path x))
+  pub numbers-kept : p .times ≡ [] → (size : ℕ) → keptNumbers (rowsOf p) (numbersWith size p) (x .start) ≡ numbersWith size (grow p (path x))
   unfolding keptNumbers numbersWith grow
-  numbers-kept size = go (isInitiator p i) refl
+  numbers-kept none-yet size = go (isInitiator p i) refl
     where
       go : (b : Bool) → isInitiator p i ≡ b → keptNumbers (rowsOf p) (numbersWith size p) i ≡ numbersWith size q
-      go true e = rw (old-count (rowsOf p) (numbersWith size p) i (has-row e), kept-initiators p x e, length-append (p .paths) (x ∷ []))
+      go true e = rw (old-count (rowsOf p) (numbersWith size p) i (has-row e), no-costs p (p .paths) none-yet, no-costs q (q .paths) none-yet, kept-initiators p x e, length-append (p .paths) (x ∷ []))
       go false e =
           let r = inserted e in
           let n : length (initiators q) ≡ count + 1 = ap length (r .new) ∙ simp (length-append, length-take, length-drop) (omega (arith, r .within)) in
-          rw (new-count (rowsOf p) (numbersWith size p) i (no-row-yet e), n, length-append (p .paths) (x ∷ []))
+          rw (new-count (rowsOf p) (numbersWith size p) i (no-row-yet e), no-costs p (p .paths) none-yet, no-costs q (q .paths) none-yet, n, length-append (p .paths) (x ∷ []))

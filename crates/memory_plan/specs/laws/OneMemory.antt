@@ -1,24 +1,29 @@
 -- Memory tells plans apart: good plans that the same arrays hold have one canonical plan.
 use mathlib.Core.Path.{_≡_, sym, ap, _∙_}
 use mathlib.Core.Logic.{_↔_}
-use mathlib.Core.List.{List, map, map-id}
-use Prim.Native.Nat.{ℕ}
+use mathlib.Core.List.{List, map, map-id, List·Memᴰ}
+use Prim.Native.Nat.{ℕ, _<_}
+use native.Mathlib.Omega.{arith}
 use Rattle.lists.specs.Order.{inOrder}
 use Rattle.lists.specs.laws.OneOrder.{one-order, one-orders}
-use Rattle.rules_plan.specs.Plan.{Device, Link, Entry, Plan}
+use Rattle.rules_plan.specs.Plan.{Device, Link, Entry, Times, Plan}
 use Rattle.rules_plan.specs.Meaning.{initiators}
 use Rattle.rules_plan.specs.Canon.{smallFirst, withRising, canonical, SamePlan}
 use Rattle.rules_plan.specs.Good.{Good, sameDeviceNumber, sameLinkNumber, sameEntryPlace}
 use Rattle.rules_plan.specs.laws.Canonical.{same-plans}
+use Rattle.rules_plan.specs.laws.GoodSound.{good-sound}
 use Rattle.memory_plan.specs.Memory.{pathsInOrder, Holds}
 use Rattle.memory_plan.specs.laws.SameMemory.{SameArrays, same-memory}
-use Rattle.memory_plan.specs.laws.ToldPlan.{told-devices, told-links, told-paths, told-initiators, told-timings}
+use Rattle.memory_plan.specs.laws.ToldPlan.{told-devices, told-links, told-paths, told-initiators, told-timings, told-times}
 use Rattle.memory_plan.specs.laws.ToldEntries.{told-entries}
+
+some-rate : (p : Plan) → Good p → (x : Times) → List·Memᴰ x (p .times) → 0 < x .rate
+some-rate p g x m = omega (arith, ((good-sound p g) .times x m) .some-rate)
 
 -- equal arrays: one canonical plan
 pub one-canonical : (p q : Plan) → Good p → Good q → SameArrays p q → canonical p ≡ canonical q
 unfolding canonical sameDeviceNumber sameLinkNumber sameEntryPlace smallFirst withRising pathsInOrder
-one-canonical p q g h s = rw (devices, links, told-paths p q (s .numbers) g h (s .paths), entries, told-timings p q (s .numbers) (g .timing) (h .timing))
+one-canonical p q g h s = rw (devices, links, told-paths p q (s .numbers) g h (s .paths), entries, told-timings p q (s .numbers) (g .timing) (h .timing), told-times p q (s .numbers) (g .times) (h .times) (some-rate p g) (some-rate q h))
   where
     devices : inOrder (λ (d : Device). d .num) (p .devices) ≡ inOrder (λ (d : Device). d .num) (q .devices)
     devices = sym (map-id _) ∙ one-order (λ d. d) (p .devices) (q .devices) (told-devices p q (s .sets) (g .ranges)) (told-devices q p (sym (s .sets)) (h .ranges))

@@ -1,5 +1,5 @@
 -- Plans that differ in their orders only have equal memory.
-use mathlib.Core.Path.{_≡_, ap, ap₂, _∙_, fun-ext}
+use mathlib.Core.Path.{_≡_, refl, ap, ap₂, _∙_, fun-ext}
 use mathlib.Core.Logic.{_↔_}
 use mathlib.Core.List.{List, flatMap}
 use mathlib.Core.Option.{Option, none, some}
@@ -14,14 +14,15 @@ use Rattle.lists.specs.laws.Shuffle.{Respects, eq-respects, shuffled-length, an
 use Rattle.lists.specs.laws.Order.{one-key, one-pair, orders-same}
 use Rattle.lists.specs.laws.Found.{read-shuffled}
 use Rattle.bitsets.specs.Set.{packed}
-use Rattle.rules_plan.specs.Plan.{Link, Route, Entry, Plan}
-use Rattle.rules_plan.specs.Meaning.{standsAt, entryAt}
+use Rattle.rules_plan.specs.Plan.{Link, Route, Entry, Times, Plan}
+use Rattle.rules_plan.specs.Meaning.{standsAt, entryAt, timesOf}
 use Rattle.rules_plan.specs.Canon.{canonical, SameLink, SameEntry, SamePlan}
 use Rattle.rules_plan.specs.Good.{Good, sameLinkNumber, samePathEnds, sameEntryPlace}
 use Rattle.rules_plan.specs.laws.Same.{link-refl, entry-refl, plan-sym, same-ends, same-hasKind, same-isLink, same-hasPath, same-initiators, same-standsAt}
 use Rattle.rules_plan.specs.laws.SameItems.{same-length, good-same}
 use Rattle.rules_plan.specs.laws.Canonical.{same-canonical}
-use Rattle.memory_plan.specs.Memory.{setsOf, endOf, endsOf, rowsOf, ofRow, reachOf, pathRow, pathsInOrder, pathsOf, spanOf, spansOf, aimOf, aimsOf, numbersWith, numbersOf, Holds}
+use Rattle.memory_plan.specs.Memory.{setsOf, endOf, endsOf, rowsOf, ofRow, reachOf, pathRow, pathsInOrder, pathsOf, spanOf, spansOf, aimOf, aimsOf, costsAmong, costsOf, numbersWith, numbersOf, Holds}
+use Rattle.memory_plan.specs.laws.Costs.{costs-shuffled}
 
 -- a link's ends in order, whichever stands first
 same-endOf : (side : ℕ) → Respects SameLink (λ (l : Link). endOf side (some l))
@@ -83,9 +84,16 @@ module _ {p q : Plan} (s : SamePlan p q) where
     unfolding aimsOf
     same-aims = ap (cells 512) (fun-ext λ n. same-ofRow (n / 64) _ _ (λ i. same-entryAt aimOf same-aimOf i (n % 64)))
 
-  pub same-numbers : numbersOf p ≡ numbersOf q
+  -- where no path is there twice
+  pub same-costs : repeats samePathEnds (p .paths) ≡ false → costsOf p ≡ costsOf q
+  unfolding costsAmong
+  same-costs u =
+      ap (λ (xs : List Times). costsAmong p (timesOf xs) (p .paths)) (s .times) ∙ costs-shuffled p (timesOf (q .times)) (s .paths) u
+      ∙ ap (cells 512) (fun-ext λ n. same-ofRow (n / 64) _ _ (λ i. refl))
+
+  pub same-numbers : repeats samePathEnds (p .paths) ≡ false → numbersOf p ≡ numbersOf q
   unfolding numbersWith
-  same-numbers = rw (same-length s, same-initiators s, shuffled-length (s .paths), shuffled-length (s .entries), s .timings)
+  same-numbers u = rw (same-costs u, same-length s, same-initiators s, shuffled-length (s .paths), shuffled-length (s .entries), s .timings, s .times)
 
 -- the eight arrays of two plans are equal
 pub record SameArrays (p q : Plan) : Type 0 where
@@ -107,7 +115,7 @@ same-memory s g = record {
   paths = same-paths s (g .paths);
   spans = same-spans s (g .entries);
   aims = same-aims s (g .entries);
-  numbers = same-numbers s;
+  numbers = same-numbers s (g .paths);
 }
 
 -- what holds a plan holds each plan that is the same

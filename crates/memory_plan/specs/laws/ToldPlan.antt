@@ -1,9 +1,10 @@
--- What two plans with equal arrays have in common: devices, links, initiators, paths and intervals.
+-- What two plans with equal arrays have in common: devices, links, initiators, paths, intervals and times.
 use mathlib.Core.Path.{_≡_, refl, sym, ap, ap₂, _∙_}
-use mathlib.Core.List.{List, [], _∷_}
+use mathlib.Core.List.{List, [], _∷_, List·Memᴰ, List·Memᴰ·head}
 use mathlib.Core.Option.{some}
 use mathlib.Core.Bool.{Bool, true, false}
-use Prim.Native.Nat.{ℕ, zero, suc, _+_, _*_, _/_, _%_, _<_, min, max}
+use Prim.Native.Nat.{ℕ, zero, suc, _+_, _*_, _/_, _%_, _≤_, _<_, min, max}
+use native.Mathlib.Nat.{eq-of-mul-eq-mul-left}
 use native.Mathlib.Omega.{arith}
 use lib.ListN.{length}
 use lib.Dec.{eqb}
@@ -18,8 +19,8 @@ use Rattle.lists.specs.laws.Told.{cells-told, padded-told, even-length, parts-t
 use Rattle.lists.specs.laws.OneOrder.{Among}
 use Rattle.bitsets.specs.Set.{member, packed}
 use Rattle.bitsets.specs.Packed.{member-packed-below}
-use Rattle.rules_plan.specs.Plan.{nth, Device, Link, Route, Timing, Plan, path}
-use Rattle.rules_plan.specs.Meaning.{hasKind, isLink, initiators, leastOf, greatestOf}
+use Rattle.rules_plan.specs.Plan.{nth, Device, Link, Route, Timing, Times, Plan, path}
+use Rattle.rules_plan.specs.Meaning.{hasKind, isLink, initiators, leastOf, greatestOf, timesOf}
 use Rattle.rules_plan.specs.Judge.{outOfRange}
 use Rattle.rules_plan.specs.Canon.{smallFirst}
 use Rattle.rules_plan.specs.Good.{Good, Each, sameLinkNumber}
@@ -111,6 +112,24 @@ module _ (p q : Plan) (e : numbersOf p ≡ numbersOf q) where
       go (t ∷ []) (u ∷ []) g h a b = λ i. record { least = a i; greatest = b i } ∷ []
       go (t ∷ []) (u ∷ v ∷ us) g h a b = absurd (omega arith)
       go (t ∷ s ∷ ts) (u ∷ us) g h a b = absurd (omega arith)
+
+  -- (a rate is not 0, and so a slot by the rate tells the slot)
+  pub told-times : length (p .times) ≤ 1 → length (q .times) ≤ 1 → ((x : Times) → List·Memᴰ x (p .times) → 0 < x .rate) → ((x : Times) → List·Memᴰ x (q .times) → 0 < x .rate)
+      → p .times ≡ q .times
+  unfolding numbersWith timesOf
+  told-times g h j k = go (p .times) (q .times) g h j k (number-told 6) (number-told 7) (number-told 8) (number-told 9) (number-told 10) (number-told 11)
+    where
+      go : (xs ys : List Times) → length xs ≤ 1 → length ys ≤ 1 → ((x : Times) → List·Memᴰ x xs → 0 < x .rate) → ((x : Times) → List·Memᴰ x ys → 0 < x .rate)
+          → (timesOf xs) .rate ≡ (timesOf ys) .rate → (timesOf xs) .a ≡ (timesOf ys) .a → (timesOf xs) .d ≡ (timesOf ys) .d → (timesOf xs) .f ≡ (timesOf ys) .f → (timesOf xs) .g ≡ (timesOf ys) .g
+          → (timesOf xs) .rate * (timesOf xs) .slot ≡ (timesOf ys) .rate * (timesOf ys) .slot → xs ≡ ys
+      go [] [] g h j k r a d f l s = refl
+      go [] (y ∷ ys) g h j k r a d f l s = absurd (omega (arith, k y (List·Memᴰ·head refl), r))
+      go (x ∷ xs) [] g h j k r a d f l s = absurd (omega (arith, j x (List·Memᴰ·head refl), r))
+      go (x ∷ []) (y ∷ []) g h j k r a d f l s =
+          let t : x .slot ≡ y .slot = eq-of-mul-eq-mul-left (x .rate) (j x (List·Memᴰ·head refl)) (x .slot) (y .slot) (rw (← r) at s) in
+          λ i. record { rate = r i; a = a i; d = d i; f = f i; g = l i; slot = t i } ∷ []
+      go (x ∷ []) (y ∷ z ∷ ys) g h j k r a d f l s = absurd (omega arith)
+      go (x ∷ z ∷ xs) (y ∷ ys) g h j k r a d f l s = absurd (omega arith)
 
   pub told-initiators : rowsOf p ≡ rowsOf q → initiators p ≡ initiators q
   unfolding numbersWith rowsOf

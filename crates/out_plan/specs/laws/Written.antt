@@ -1,30 +1,32 @@
 -- Writing out of memory that holds a plan: the bytes are those of the plan, and the answers those of the rules.
 use mathlib.Core.Path.{_≡_, refl, sym, ap, _∙_}
 use mathlib.Core.Logic.{_≢_}
-use mathlib.Core.List.{List, [], _∷_, map, flatMap, append-nil}
+use mathlib.Core.List.{List, [], _∷_, map, flatMap, append-nil, List·Memᴰ·head}
 use mathlib.Core.Option.{Option, none, some}
-use Prim.Native.Nat.{ℕ, _%_, _≤_, _<_}
+use Prim.Native.Nat.{ℕ, _*_, _/_, _%_, _≤_, _<_}
+use native.Mathlib.Nat.{mul-div-cancel-left}
 use native.Mathlib.Omega.{arith}
 use lib.ListN.{length}
+use borrow.Author.Tests.{ne-eqb}
 use Rattle.lists.specs.Search.{isSome}
 use Rattle.lists.specs.Rows.{firstOf}
 use Rattle.lists.specs.Puts.{Puts}
 use Rattle.lists.specs.laws.Append.{flat-append}
 use Rattle.lists.specs.laws.Stores.{put-front}
 use Rattle.rules_plan.specs.declared.Copied.the-variants.{NotWritten, Written}
-use Rattle.rules_plan.specs.Plan.{nth, Timing, Plan, blank, timing}
+use Rattle.rules_plan.specs.Plan.{nth, Timing, Times, Plan, blank, timing, times}
 use Rattle.rules_plan.specs.Fields.{fieldFor}
 use Rattle.rules_plan.specs.Canon.{canonical, items, written}
 use Rattle.rules_plan.specs.Copy.{copyRows, copyRefusal, copyAnswer, copied}
 use Rattle.rules_plan.specs.Good.{Good}
-use Rattle.rules_plan.specs.laws.Size.{most-bytes}
+use Rattle.rules_plan.specs.laws.GoodSound.{good-sound}
 use Rattle.rules_plan.specs.laws.Copies.{no-room, answers-size, puts-bytes}
-use Rattle.rules_plan.specs.Meaning.{leastOf, greatestOf}
+use Rattle.rules_plan.specs.Meaning.{leastOf, greatestOf, timesOf}
 use Rattle.memory_plan.specs.Memory.{setsOf, endsOf, rowsOf, pathsOf, spansOf, aimsOf, numbersWith, numbersOf}
 use Rattle.memory_plan.specs.PlanHeld.{PlanHeld, HoldsPlan}
 use Rattle.memory_plan.specs.laws.BlankMemory.{good-not-blank}
 use Rattle.out_plan.specs.Out.{outBytes}
-use Rattle.out_items.specs.Out.{timingBytes}
+use Rattle.out_items.specs.Out.{timingBytes, timesBytes}
 use Rattle.out_plan.specs.laws.Devices.{devices-out}
 use Rattle.out_plan.specs.laws.Links.{links-out}
 use Rattle.out_plan.specs.laws.Paths.{paths-out}
@@ -37,10 +39,24 @@ timing-out [] h = absurd (omega arith)
 timing-out (t ∷ []) h = sym (append-nil (fieldFor (timing t)))
 timing-out (t ∷ s ∷ ts) h = absurd (omega arith)
 
+-- times, or none: a slot by the rate, divided by it, is the slot
+times-out : (size : ℕ) (p : Plan) → Good p → timesBytes (numbersWith size p) ≡ flatMap fieldFor (map times (p .times))
+unfolding timesBytes numbersWith timesOf flatMap
+times-out size p good = go (p .times) refl (good .times)
+  where
+    go : (xs : List Times) → p .times ≡ xs → length xs ≤ 1 → timesBytes (numbersWith size p) ≡ flatMap fieldFor (map times xs)
+    go [] e h = rw e
+    go (x ∷ y ∷ xs) e h = absurd (omega arith)
+    go (x ∷ []) e h =
+        let r = (good-sound p good) .times x (rw e (List·Memᴰ·head refl)) in
+        let rate : x .rate % 65_536 ≡ x .rate = omega (arith, r .rate) in
+        let slot : x .rate * x .slot / x .rate ≡ x .slot = mul-div-cancel-left (x .slot) (omega (arith, r .some-rate)) in
+        rw (e, ne-eqb (x .rate) 0 (λ z. omega (arith, r .some-rate)), rate, slot) (sym (append-nil (fieldFor (times x))))
+
 -- the bytes that the memory of a plan gives are those of the plan
 plan-out : (p : Plan) → Good p → canonical p ≡ p → outBytes (setsOf p) (endsOf p) (rowsOf p) (pathsOf p) (spansOf p) (aimsOf p) (numbersOf p) ≡ written p
 unfolding outBytes setsOf numbersWith written items
-plan-out p good e = rw (devices-out p good e, links-out p good e, paths-out p good e, entries-out p good e, timing-out (p .timings) (good .timing)) (simp flat-append)
+plan-out p good e = rw (devices-out p good e, links-out p good e, paths-out p good e, entries-out p good e, timing-out (p .timings) (good .timing), times-out (length (written p)) p good) (simp flat-append)
 
 module _ {sets ends rows reach paths spans aims numbers : List ℕ} where
   no-interval : PlanHeld none sets ends rows reach paths spans aims numbers → nth numbers 1 ≡ 0
@@ -53,7 +69,7 @@ module _ {sets ends rows reach paths spans aims numbers : List ℕ} where
 
     size-at : nth numbers 5 % 65536 ≡ length (written p)
     unfolding numbersWith
-    size-at = omega (arith, ap (λ (l : List ℕ). nth l 5) (h .holds .numbers), most-bytes p (h .good))
+    size-at = omega (arith, ap (λ (l : List ℕ). nth l 5) (h .holds .numbers), h .good .short)
 
     bytes-at : outBytes sets ends rows paths spans aims numbers ≡ written p
     bytes-at = let m = h .holds in rw (m .sets, m .ends, m .rows, m .paths, m .spans, m .aims, m .numbers) (plan-out p (h .good) (h .ordered))

@@ -62,6 +62,7 @@ module _ (s : List ℕ) (p : Plan) (clean : Clean s p) where
         walks = f .walks;
         reached = f .reached;
         timing = one (p .timings) refl;
+        times = f .lists .times;
         no-overrun = clean .no-overrun;
         no-clash = clean .no-clash;
       }

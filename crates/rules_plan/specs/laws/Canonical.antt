@@ -63,6 +63,7 @@ same-ordered p r u = record {
   entries = shuffled-each entry-refl withRising (inOrders-shuffled (λ e. e .initiator) (λ e. e .slot) (p .entries) (λ e m. let h = entry-ranged p r e m in (h .initiator, h .slot)))
       (λ e m. withRising-same e (u e m) ((entry-ranged p r e m) .targets));
   timings = refl;
+  times = refl;
 }
 
 pub same-canonical : (p : Plan) → Good p → SamePlan p (canonical p)
@@ -80,6 +81,7 @@ canonical-same p q g s = rw (
   orders-same (s .paths) (λ x. x .start) (λ x. x .end) (g .paths),
   orders-shuffled entry-refl withRising withRising-respects (λ e. e .initiator) (λ e. e .slot) (λ e f h. h .initiator) (λ e f h. h .slot) (s .entries) (g .entries),
   s .timings,
+  s .times,
 )
 
 pub canonical-twice : (p : Plan) → Good p → canonical (canonical p) ≡ canonical p

@@ -2,8 +2,8 @@
 use mathlib.Core.Path.{_≡_, refl, sym, _∙_}
 use mathlib.Core.Logic.{_≢_, _⊎_, inl, inr}
 use mathlib.Core.List.{List, [], _∷_, _++_, append-nil, append-assoc, List·Memᴰ, List·Memᴰ·append-cases, List·Memᴰ·eq-of-singleton, List·Memᴰ·not-nil}
-use mathlib.Core.Bool.{Bool, true, false, _&&_}
-use Prim.Native.Nat.{ℕ, _≤_}
+use mathlib.Core.Bool.{Bool, true, false, _&&_, _||_}
+use Prim.Native.Nat.{ℕ, _≤_, _<_}
 use native.Mathlib.Omega.{arith}
 use lib.ListN.{length, length-append}
 use lib.Dec.{ltb, eqb}
@@ -11,14 +11,14 @@ use borrow.Author.Tests.{ltb-false, eq-eqb}
 use Rattle.lists.specs.Search.{any, keep, find, repeats, twice, upFrom, below64}
 use Rattle.lists.specs.laws.Bools.{neither, true-both, not-both}
 use Rattle.lists.specs.laws.Append.{once-more}
-use Rattle.rules_plan.specs.Plan.{Device, Link, Route, Entry, Timing, Plan, blank, Item, device, link, path, entry, timing, grow}
+use Rattle.rules_plan.specs.Plan.{Device, Link, Route, Entry, Timing, Times, Plan, blank, Item, device, link, path, entry, timing, times, grow}
 use Rattle.rules_plan.specs.Fields.{tags, tagOf, comesOnce, tagFor}
 use Rattle.rules_plan.specs.Meaning.{isInitiator, initiators}
 use Rattle.rules_plan.specs.Judge.{outOfRange, givenBefore, notGiven, noWalk, noPath}
 use Rattle.rules_plan.specs.Canon.{items}
 use Rattle.rules_plan.specs.Good.{sameDeviceNumber, sameLinkNumber, samePathEnds, sameEntryPlace, Each}
 use Rattle.rules_plan.specs.laws.Lengths.{Sized}
-use Rattle.rules_plan.specs.laws.Items.{UpTo, items-grow, no-timings}
+use Rattle.rules_plan.specs.laws.Items.{UpTo, items-grow, no-timings, no-times}
 use Rattle.rules_plan.specs.laws.Growth.{Within, grow-within, known-grows, walk-grows, reach-grows}
 use Rattle.rules_plan.specs.laws.Initiators.{same-initiators, eight-grows, most-grows}
 use Rattle.rules_plan.specs.laws.Once.{given-device, given-link, given-path, given-entry}
@@ -42,6 +42,7 @@ pub record FairLists (p : Plan) : Type 0 where
   pub paths : FairPaths p
   pub entries : FairEntries (p .entries)
   pub timings : length (p .timings) ≤ 1
+  pub times : length (p .times) ≤ 1
 
 pub record Fair (p : Plan) : Type 0 where
   pub lengths : (x : Item) → List·Memᴰ x (items p) → Sized x
@@ -50,6 +51,13 @@ pub record Fair (p : Plan) : Type 0 where
   pub walks : Each p (noWalk p) false
   pub reached : Each p (noPath p) false
   pub lists : FairLists p
+
+-- a tag that comes once follows only smaller tags: after itself row 4 holds of it
+pub follows-smaller : (n before : ℕ) → ltb n before || eqb n before && true ≡ false → before < n
+follows-smaller n before o =
+    let c = neither (ltb n before) (eqb n before && true) o in
+    let z : before ≢ n = λ e. not-both (true-both (eq-eqb n before (sym e)) refl) (c .1) in
+    omega (arith, ltb-false n before (c .0))
 
 module _ (p : Plan) (old : FairLists p) where
   more-devices : (d : Device) → givenBefore p (device d) ≡ false → repeats sameDeviceNumber (p .devices ++ (d ∷ [])) ≡ false
@@ -82,21 +90,22 @@ module _ (p : Plan) (old : FairLists p) where
   kept : (q : Plan) → q .paths ≡ p .paths → FairPaths q
   kept q e = record { once = rw e (old .paths .once); eight = rw (same-initiators q p e) (old .paths .eight); most = rw e (old .paths .most) }
 
-  -- a timing comes after no other: after a timing row 4 holds of it
   one-timing : (before : ℕ) (t : Timing) → UpTo p before → InOrder before (timing t) → length (p .timings ++ (t ∷ [])) ≤ 1
   unfolding tagFor comesOnce tagOf tags find
-  one-timing before t up o =
-      let n = neither (ltb 5 before) (eqb 5 before && true) o in
-      let z : before ≢ 5 = λ e. not-both (true-both (eq-eqb 5 before (sym e)) refl) (n .1) in
-      rw (no-timings p before up (omega (arith, ltb-false 5 before (n .0)))) (omega arith)
+  one-timing before t up o = rw (no-timings p before up (follows-smaller 5 before o)) (omega arith)
+
+  one-times : (before : ℕ) (x : Times) → UpTo p before → InOrder before (times x) → length (p .times ++ (x ∷ [])) ≤ 1
+  unfolding tagFor comesOnce tagOf tags find
+  one-times before x up o = rw (no-times p before up (follows-smaller 6 before o)) (omega arith)
 
   pub lists-grow : (before : ℕ) (x : Item) → UpTo p before → Follows p before x → FairLists (grow p x)
   unfolding grow
-  lists-grow before (device d) u f = record { devices = more-devices d (f .passes .new); links = old .links; paths = kept _ refl; entries = old .entries; timings = old .timings }
-  lists-grow before (link l) u f = record { devices = old .devices; links = more-links l (f .passes .new); paths = kept _ refl; entries = old .entries; timings = old .timings }
-  lists-grow before (path x) u f = record { devices = old .devices; links = old .links; paths = more-paths x (f .passes); entries = old .entries; timings = old .timings }
-  lists-grow before (entry e) u f = record { devices = old .devices; links = old .links; paths = kept _ refl; entries = more-entries e (f .passes .new); timings = old .timings }
-  lists-grow before (timing t) u f = record { devices = old .devices; links = old .links; paths = kept _ refl; entries = old .entries; timings = one-timing before t u (f .order) }
+  lists-grow before (device d) u f = record { devices = more-devices d (f .passes .new); links = old .links; paths = kept _ refl; entries = old .entries; timings = old .timings; times = old .times }
+  lists-grow before (link l) u f = record { devices = old .devices; links = more-links l (f .passes .new); paths = kept _ refl; entries = old .entries; timings = old .timings; times = old .times }
+  lists-grow before (path x) u f = record { devices = old .devices; links = old .links; paths = more-paths x (f .passes); entries = old .entries; timings = old .timings; times = old .times }
+  lists-grow before (entry e) u f = record { devices = old .devices; links = old .links; paths = kept _ refl; entries = more-entries e (f .passes .new); timings = old .timings; times = old .times }
+  lists-grow before (timing t) u f = record { devices = old .devices; links = old .links; paths = kept _ refl; entries = old .entries; timings = one-timing before t u (f .order); times = old .times }
+  lists-grow before (times x) u f = record { devices = old .devices; links = old .links; paths = kept _ refl; entries = old .entries; timings = old .timings; times = one-times before x u (f .order) }
 
 -- what holds of the items and of one more holds of the items of the grown plan
 each-grow : (P : Item → Type 0) (p : Plan) (x : Item) → UpTo p (tagFor x) → ((y : Item) → List·Memᴰ y (items p) → P y) → P x → (y : Item) → List·Memᴰ y (items (grow p x)) → P y
@@ -148,6 +157,7 @@ blank-fair = record {
     paths = record { once = refl; eight = omega arith; most = omega arith };
     entries = record { once = refl; targets = λ e m. absurd (List·Memᴰ·not-nil m) };
     timings = omega arith;
+    times = omega arith;
   };
 }
 

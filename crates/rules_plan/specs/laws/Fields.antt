@@ -12,11 +12,11 @@ use lib.ListN.{length, drop, length-append, length-take, length-drop, take-appen
 use lib.Seq.{getD-drop, getD-take, drop-drop, take-append-seam, drop-append-seam}
 use Rattle.lists.specs.Search.{find, upFrom}
 use Rattle.lists.specs.laws.Append.{spelled}
-use Rattle.rules_plan.specs.Plan.{nth, two, Item, device, link, path, entry, timing}
-use Rattle.rules_plan.specs.Fields.{tags, tagOf, itemOf, lengthAllowed, asDevice, asLink, asPath, asEntry, asTiming, fourBytes, tagFor, contentFor, fieldFor, tagAt, sizeAt, contentAt, nextAt, itemAt}
+use Rattle.rules_plan.specs.Plan.{nth, two, Item, device, link, path, entry, timing, times}
+use Rattle.rules_plan.specs.Fields.{tags, tagOf, itemOf, lengthAllowed, asDevice, asLink, asPath, asEntry, asTiming, asTimes, twoBytes, fourBytes, tagFor, contentFor, fieldFor, tagAt, sizeAt, contentAt, nextAt, itemAt}
 use Rattle.rules_plan.specs.Judge.{outOfRange}
 use Rattle.rules_plan.specs.Good.{Bytes}
-use Rattle.rules_plan.specs.laws.Ranges.{timing-range}
+use Rattle.rules_plan.specs.laws.Ranges.{timing-range, times-ranged}
 use Rattle.rules_plan.specs.laws.Tags.{read-tag, read-size, read-content}
 
 -- a field is three bytes longer than its content
@@ -28,8 +28,11 @@ field-length x = omega arith
 four-read : (n : ℕ) → n < 4_294_967_296 → (n / 16_777_216 * 256 + n / 65_536 % 256) * 65_536 + (n / 256 % 256 * 256 + n % 256) ≡ n
 four-read n h = omega arith
 
+two-read : (n : ℕ) → n / 256 * 256 + n % 256 ≡ n
+two-read n = omega arith
+
 pub item-read : (x : Item) → outOfRange x ≡ false → itemOf (tagFor x) (contentFor x) ≡ some x
-unfolding itemOf tagOf tags find tagFor contentFor asDevice asLink asPath asEntry asTiming fourBytes
+unfolding itemOf tagOf tags find tagFor contentFor asDevice asLink asPath asEntry asTiming asTimes twoBytes fourBytes
 item-read (device d) h = refl
 item-read (link l) h = refl
 item-read (path x) h = refl
@@ -37,6 +40,16 @@ item-read (entry e) h = refl
 item-read (timing t) h =
     let r = timing-range t h in
     rw (four-read (t .least) (omega arith), four-read (t .greatest) (omega arith))
+item-read (times x) h =
+    let r = times-ranged x h in
+    rw (
+      two-read (x .rate),
+      four-read (x .a) (omega (arith, r .a)),
+      four-read (x .d) (omega (arith, r .d)),
+      four-read (x .f) (omega (arith, r .f)),
+      four-read (x .g) (omega (arith, r .g)),
+      four-read (x .slot) (omega (arith, r .slot)),
+    )
 
 -- item x stands at offset at of file s, with rest behind it. (At offset `length pre` of `pre ++ (fieldFor x ++ rest)` it does, by
 -- `drop-append-seam`.)

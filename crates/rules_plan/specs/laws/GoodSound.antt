@@ -10,10 +10,11 @@ use lib.Dec.{eqb}
 use borrow.Author.Tests.{eqb-true}
 use Rattle.lists.specs.laws.Bools.{true-both}
 use Rattle.lists.specs.laws.Search.{any-elim}
-use Rattle.rules_plan.specs.Plan.{Route, Entry, Plan}
+use Rattle.rules_plan.specs.Plan.{Route, Entry, Plan, times}
 use Rattle.rules_plan.specs.Meaning.{isInitiator, mayUse, runsInto}
 use Rattle.rules_plan.specs.Good.{Good}
-use Rattle.rules_plan.specs.laws.Ranges.{EntryRange}
+use Rattle.rules_plan.specs.laws.Ranges.{EntryRange, times-ranged}
+use Rattle.rules_plan.specs.laws.Items.{times-in}
 use Rattle.rules_plan.specs.laws.InRange.{path-ranged}
 use Rattle.rules_plan.specs.laws.Entries.{entry-once, entry-ranges, entry-initiator}
 use Rattle.rules_plan.specs.laws.Overruns.{runs-into, overrun-none}
@@ -44,6 +45,8 @@ module _ (p : Plan) (good : Good p) where
     no-clash = λ s i j l hs d mi mj. apart s i j l hs d mi mj (decLt i j);
     eight = good .eight;
     small = good-initiator;
+    one-path = good .paths;
+    times = λ x m. times-ranged x (good .ranges (times x) (times-in p x m));
   }
     where
       -- an entry that runs into another is an overrun

@@ -11,7 +11,7 @@ use borrow.Author.Tests.{not-false}
 use Rattle.lists.specs.Search.{all, find, isIn}
 use Rattle.lists.specs.laws.Bools.{both-true, true-both, either, none-some, not-both}
 use Rattle.lists.specs.laws.Append.{Begins, begins-self, begins-append, any-begins, find-begins, all-more}
-use Rattle.rules_plan.specs.Plan.{Link, Plan, Item, device, link, path, entry, timing, grow}
+use Rattle.rules_plan.specs.Plan.{Link, Plan, Item, device, link, path, entry, timing, times, grow}
 use Rattle.rules_plan.specs.Fields.{tagFor}
 use Rattle.rules_plan.specs.Meaning.{isDevice, hasKind, isNode, isRouter, isLink, hasPath, leadsFrom, leads, walks, isWalk}
 use Rattle.rules_plan.specs.Judge.{notGiven, noWalk, noPath}
@@ -29,6 +29,7 @@ grow-within n p (link l) = record { devices = λ _. begins-self (p .devices); li
 grow-within n p (path x) = record { devices = λ _. begins-self (p .devices); links = λ _. begins-self (p .links); paths = λ _. begins-append (p .paths) (x ∷ []) }
 grow-within n p (entry e) = record { devices = λ _. begins-self (p .devices); links = λ _. begins-self (p .links); paths = λ _. begins-self (p .paths) }
 grow-within n p (timing t) = record { devices = λ _. begins-self (p .devices); links = λ _. begins-self (p .links); paths = λ _. begins-self (p .paths) }
+grow-within n p (times x) = record { devices = λ _. begins-self (p .devices); links = λ _. begins-self (p .links); paths = λ _. begins-self (p .paths) }
 
 module _ (p q : Plan) where
   device-grows : Begins (p .devices) (q .devices) → (n : ℕ) → isDevice p n ≡ true → isDevice q n ≡ true
@@ -108,6 +109,7 @@ module _ (p q : Plan) where
       b : Begins (p .devices) (q .devices)
       b = w .devices (omega arith)
   known-grows (timing t) w h = refl
+  known-grows (times x) w h = refl
 
   -- 10
   pub walk-grows : (x : Item) → Within (tagFor x) p q → noWalk p x ≡ false → noWalk q x ≡ false
@@ -117,6 +119,7 @@ module _ (p q : Plan) where
   walk-grows (path x) w h = not-not _ _ (walks-grows (w .devices (omega arith)) (w .links (omega arith)) (x .start ∷ []) (x .start) (x .links) (x .end)) h
   walk-grows (entry e) w h = refl
   walk-grows (timing t) w h = refl
+  walk-grows (times x) w h = refl
 
   -- 11
   pub reach-grows : (x : Item) → Within (tagFor x) p q → noPath p x ≡ false → noPath q x ≡ false
@@ -126,3 +129,4 @@ module _ (p q : Plan) where
   reach-grows (path x) w h = refl
   reach-grows (entry e) w h = not-not _ _ (all-more (hasPath p (e .initiator)) (hasPath q (e .initiator)) (e .targets) (has-path-grows (w .paths (omega arith)) (e .initiator))) h
   reach-grows (timing t) w h = refl
+  reach-grows (times x) w h = refl

@@ -2,7 +2,7 @@
 use mathlib.Core.Path.{_≡_, refl, sym, _∙_}
 use mathlib.Core.List.{List, [], _∷_, _++_, map, append-nil, append-assoc, List·Memᴰ, List·Memᴰ·head}
 use mathlib.Core.Bool.{false, and-false}
-use Prim.Native.Nat.{ℕ, _+_, _≤_}
+use Prim.Native.Nat.{ℕ, _+_, _≤_, _<_}
 use native.Mathlib.Omega.{arith}
 use lib.ListN.{length}
 use lib.Dec.{eqb}
@@ -10,14 +10,14 @@ use borrow.Author.Tests.{le-ltb, ne-eqb}
 use Rattle.lists.specs.Search.{find}
 use Rattle.lists.specs.laws.Bools.{false-either}
 use Rattle.lists.specs.laws.Append.{Begins, begins-self, begins-last, once-before}
-use Rattle.rules_plan.specs.Plan.{Device, Link, Route, Entry, Timing, Plan, blank, withDevices, withLinks, withPaths, withEntries, Item, device, link, path, entry, timing, grow}
+use Rattle.rules_plan.specs.Plan.{Device, Link, Route, Entry, Timing, Times, Plan, blank, withDevices, withLinks, withPaths, withEntries, withTimings, withTimes, Item, device, link, path, entry, timing, times, grow}
 use Rattle.rules_plan.specs.Fields.{tags, tagOf, comesOnce, tagFor}
 use Rattle.rules_plan.specs.Judge.{givenBefore, tooMany}
 use Rattle.rules_plan.specs.Canon.{items}
 use Rattle.rules_plan.specs.Good.{Good, sameDeviceNumber, sameLinkNumber, samePathEnds, sameEntryPlace}
 use Rattle.rules_plan.specs.laws.Ranges.{route-range}
 use Rattle.rules_plan.specs.laws.Lengths.{Sized}
-use Rattle.rules_plan.specs.laws.Items.{device-in, link-in, path-in, entry-in, timing-in}
+use Rattle.rules_plan.specs.laws.Items.{device-in, link-in, path-in, entry-in, timing-in, times-in}
 use Rattle.rules_plan.specs.laws.Growth.{Within, known-grows, walk-grows, reach-grows}
 use Rattle.rules_plan.specs.laws.Initiators.{few-before}
 use Rattle.rules_plan.specs.laws.Once.{given-device, given-link, given-path, given-entry}
@@ -47,7 +47,24 @@ module _ {A : Type 0} (make : A → Item) (n : ℕ) (so-far : List A → Plan) (
   stage : (before : ℕ) → before ≤ n → Led (so-far []) before (map make all) (so-far all) n
   stage before h = stage-from [] all before refl h
 
--- the plan so far, while its devices, links, paths or entries are read
+-- the same of a tag that comes once
+module _ {A : Type 0} (make : A → Item) (n : ℕ) (so-far : List A → Plan) (all : List A)
+    (tag : (x : A) → tagFor (make x) ≡ n) (once : length all ≤ 1)
+    (adds : (x : A) → grow (so-far []) (make x) ≡ so-far (x ∷ []))
+    (fine : (x : A) → List·Memᴰ x all → Sized (make x) × Passes (so-far []) (make x)) where
+  stage-once : (before : ℕ) → before < n → Led (so-far []) before (map make all) (so-far all) n
+  stage-once before h = go all refl
+    where
+      go : (xs : List A) → all ≡ xs → Led (so-far []) before (map make xs) (so-far xs) n
+      go [] e = (before, end, omega arith)
+      go (x ∷ y ∷ xs) e = let z : length all ≡ 2 + length xs = rw e (omega arith) in absurd (omega arith)
+      go (x ∷ []) e =
+          let (size, pass) = fine x (rw e (List·Memᴰ·head refl)) in
+          let order : InOrder before (make x) = rw (tag x, ne-eqb n before (omega arith)) (false-either (le-ltb n before (omega arith)) refl) in
+          let c : Chain (grow (so-far []) (make x)) (tagFor (make x)) [] (so-far (x ∷ [])) n = rw (adds x, tag x) end in
+          (n, next (record { order = order; size = size; passes = pass }) c, omega arith)
+
+-- the plan so far, while its devices, links, paths, entries, timing or times are read
 abbrev devicesOnly : List Device → Plan
 devicesOnly ds = withDevices ds blank
 
@@ -59,6 +76,12 @@ plusPaths p xs = withPaths xs (plusLinks p (p .links))
 
 abbrev plusEntries : Plan → List Entry → Plan
 plusEntries p es = withEntries es (plusPaths p (p .paths))
+
+abbrev plusTimings : Plan → List Timing → Plan
+plusTimings p ts = withTimings ts (plusEntries p (p .entries))
+
+abbrev plusTimes : Plan → List Times → Plan
+plusTimes p xs = withTimes xs (plusTimings p (p .timings))
 
 module _ (p : Plan) (good : Good p) where
   -- rows 6, 8, 10 and 11 of an item, in a plan that has the items of smaller tags
@@ -74,6 +97,10 @@ module _ (p : Plan) (good : Good p) where
       reached = reach-grows p q x w (good .reached x m);
     },
   )
+
+  -- a plan with all devices, links and paths
+  last-within : {n : ℕ} (q : Plan) → q .devices ≡ p .devices → q .links ≡ p .links → q .paths ≡ p .paths → Within n p q
+  last-within q d l x = record { devices = λ _. rw d (begins-self (p .devices)); links = λ _. rw l (begins-self (p .links)); paths = λ _. rw x (begins-self (p .paths)) }
 
   device-stage : Led (devicesOnly []) 0 (map device (p .devices)) (devicesOnly (p .devices)) 1
   unfolding tagFor grow comesOnce tagOf tags find tooMany
@@ -116,20 +143,15 @@ module _ (p : Plan) (good : Good p) where
           (record { devices = λ _. begins-self (p .devices); links = λ _. begins-self (p .links); paths = λ _. begins-self (p .paths) })
           (given-entry (plusEntries p es) e ∙ false-either (once-before sameEntryPlace es e (p .entries) b (good .entries)) (good .targets e m)) refl
 
-  timing-stage : (before : ℕ) → before ≤ 4 → Led (plusEntries p (p .entries)) before (map timing (p .timings)) p 5
-  unfolding tagFor grow givenBefore tooMany blank
-  timing-stage before h = go (p .timings) refl
-    where
-      go : (ts : List Timing) → p .timings ≡ ts → Led (plusEntries p (p .entries)) before (map timing ts) p 5
-      go [] e = let z : length (p .timings) ≡ 0 = rw e in absurd (omega (arith, good .timing))
-      go (t ∷ u ∷ ts) e = let z : length (p .timings) ≡ 2 + length ts = rw e (omega arith) in absurd (omega (arith, good .timing))
-      go (t ∷ []) e =
-          let (size, pass) = fine-item (plusEntries p (p .entries)) (timing t) (timing-in p t (rw e (List·Memᴰ·head refl)))
-          (record { devices = λ _. begins-self (p .devices); links = λ _. begins-self (p .links); paths = λ _. begins-self (p .paths) }) refl refl in
-          let order : InOrder before (timing t) = rw (ne-eqb 5 before (omega arith)) (false-either (le-ltb 5 before (omega arith)) refl) in
-          let same : grow (plusEntries p (p .entries)) (timing t) ≡ p = rw (← e) in
-          let c : Chain (grow (plusEntries p (p .entries)) (timing t)) 5 [] p 5 = rw same end in
-          (5, next (record { order = order; size = size; passes = pass }) c, omega arith)
+  timing-stage : (before : ℕ) → before ≤ 4 → Led (plusTimings p []) before (map timing (p .timings)) (plusTimings p (p .timings)) 5
+  unfolding tagFor grow givenBefore tooMany
+  timing-stage before h = stage-once timing 5 (plusTimings p) (p .timings) (λ t. refl) (omega (arith, good .timing)) (λ t. refl)
+      (λ t m. fine-item (plusTimings p []) (timing t) (timing-in p t m) (last-within (plusTimings p []) refl refl refl) refl refl) before (omega arith)
+
+  times-stage : (before : ℕ) → before ≤ 5 → Led (plusTimes p []) before (map times (p .times)) (plusTimes p (p .times)) 6
+  unfolding tagFor grow givenBefore tooMany
+  times-stage before h = stage-once times 6 (plusTimes p) (p .times) (λ x. refl) (good .times) (λ x. refl)
+      (λ x m. fine-item (plusTimes p []) (times x) (times-in p x m) (last-within (plusTimes p []) refl refl refl) refl refl) before (omega arith)
 
   pub good-chain : (last : ℕ) × Chain blank 0 (items p) p last
   unfolding items blank
@@ -139,4 +161,5 @@ module _ (p : Plan) (good : Good p) where
       let (e, f, j) = path-stage b i in
       let (g, k, l) = entry-stage e j in
       let (m, n, o) = timing-stage g l in
-      (m, chain-append (chain-append (chain-append (chain-append c d) f) k) n)
+      let (q, r, t) = times-stage m o in
+      (q, chain-append (chain-append (chain-append (chain-append (chain-append c d) f) k) n) r)

@@ -10,8 +10,9 @@ use borrow.Author.Tests.{ltb-false, eqb-false}
 use Rattle.lists.specs.Search.{any}
 use Rattle.lists.specs.laws.Bools.{neither}
 use Rattle.lists.specs.laws.Search.{any-false}
-use Rattle.rules_plan.specs.Plan.{Device, Link, Route, Entry, Timing, device, link, path, entry, timing}
+use Rattle.rules_plan.specs.Plan.{Device, Link, Route, Entry, Timing, Times, device, link, path, entry, timing, times}
 use Rattle.rules_plan.specs.Judge.{over63, outOfRange}
+use Rattle.rules_plan.specs.laws.Sheets.{TimesRange, times-range}
 
 abbrev pub Below64 : List ℕ → Type 0
 Below64 xs = (n : ℕ) → List·Memᴰ n xs → n < 64
@@ -101,3 +102,7 @@ timing-range t h =
     let b = neither (eqb (t .greatest) 0) (ltb 2_147_483_647 (t .greatest)) (a .0) in
     let z : t .greatest ≢ 0 = eqb-false (t .greatest) 0 (b .0) in
     record { some = omega arith; greatest = ltb-false 2_147_483_647 (t .greatest) (b .1); least = ltb-false (t .greatest) (t .least) (a .1) }
+
+pub times-ranged : (x : Times) → outOfRange (times x) ≡ false → TimesRange x
+unfolding outOfRange
+times-ranged x h = times-range x h

@@ -4,15 +4,15 @@ use mathlib.Core.Logic.{_≢_}
 use mathlib.Core.List.{List, List·Memᴰ, List·Memᴰ·not-nil}
 use mathlib.Core.Option.{some}
 use mathlib.Core.Bool.{true}
-use Prim.Native.Nat.{ℕ, _+_, _-_, _*_, _%_, _≤_, _<_}
+use Prim.Native.Nat.{ℕ, _+_, _-_, _%_, _≤_, _<_}
 use native.Mathlib.Omega.{arith}
-use borrow.Author.Tests.{leb-true, lt-ltb}
-use Rattle.lists.specs.Search.{any, isIn, below64}
+use borrow.Author.Tests.{lt-ltb}
+use Rattle.lists.specs.Search.{any, repeats, isIn, below64}
 use Rattle.lists.specs.laws.Bools.{both-true, not-both}
 use Rattle.lists.specs.laws.Search.{find-some, find-has, keep-none, isIn-elim}
 use Rattle.rules_plan.specs.Plan.{Entry, Plan, blank}
 use Rattle.rules_plan.specs.laws.Spans.{fits-longer, fits-short}
-use Rattle.rules_plan.specs.Meaning.{isInitiator, initiators, uses, covers, fits, permits, standsAt, entryAt, mayUse}
+use Rattle.rules_plan.specs.Meaning.{isInitiator, initiators, uses, covers, fitsIn, fits, permits, standsAt, entryAt, mayUse}
 use Rattle.rules_plan.specs.laws.Sound.{Sound}
 use Rattle.rules_plan.specs.laws.Initiators.{in-initiators}
 use Rattle.rules_plan.specs.laws.Overruns.{stands-at, runs-into}
@@ -32,6 +32,10 @@ entry-at es i v e h =
     record { has = f .0; own = sym own; slot = sym slot }
 
 -- what is permitted goes to a target of the entry
+pub permits-fits : (p : Plan) (e : Entry) (t n : ℕ) → permits p e t n ≡ true → fitsIn p (e .initiator) t n (e .span) ≡ true
+unfolding permits fits
+permits-fits p e t n h = (both-true (isIn t (e .targets)) (fits p e t n) h) .1
+
 pub permits-target : (p : Plan) (e : Entry) (t n : ℕ) → permits p e t n ≡ true → List·Memᴰ t (e .targets)
 unfolding permits
 permits-target p e t n h = isIn-elim t (e .targets) ((both-true (isIn t (e .targets)) (fits p e t n) h) .0)
@@ -76,7 +80,7 @@ module _ (p : Plan) (ok : Sound p) (e : Entry) (me : List·Memᴰ e (p .entries)
 
 -- the plan with nothing in it, which stands for none
 pub sound-blank : Sound blank
-unfolding blank initiators isInitiator mayUse any
+unfolding blank initiators isInitiator mayUse any repeats
 sound-blank = record {
   initiator = λ e m. absurd (List·Memᴰ·not-nil m);
   below = λ e m. absurd (List·Memᴰ·not-nil m);
@@ -89,4 +93,6 @@ sound-blank = record {
   no-clash = λ s i j l h d u. not-both u refl;
   eight = rw (keep-none (isInitiator blank) below64 (λ i m. refl)) (omega arith);
   small = λ i h. not-both h refl;
+  one-path = refl;
+  times = λ x m. absurd (List·Memᴰ·not-nil m);
 }

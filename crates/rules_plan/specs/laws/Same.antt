@@ -42,6 +42,7 @@ plan-sym s = record {
   paths = shuffled-sym (λ x y e. sym e) (s .paths);
   entries = shuffled-sym entry-sym (s .entries);
   timings = sym (s .timings);
+  times = sym (s .times);
 }
 
 pub plan-trans : {p q r : Plan} → SamePlan p q → SamePlan q r → SamePlan p r
@@ -51,6 +52,7 @@ plan-trans s t = record {
   paths = then (s .paths) (t .paths);
   entries = then (s .entries) (t .entries);
   timings = s .timings ∙ t .timings;
+  times = s .times ∙ t .times;
 }
 
 -- what does not tell a link's ends apart is the same for links that are

@@ -1,23 +1,13 @@
--- A good plan written out has at most 13,643 bytes.
-use mathlib.Core.List.{List, map, flatMap, List·Memᴰ, Memᴰ·of-map}
-use Prim.Native.Nat.{ℕ, _*_, _≤_}
-use native.Mathlib.Omega.{arith}
-use lib.ListN.{length, length-append, length-map}
+-- How many devices, links and entries a good plan has at most.
+use Prim.Native.Nat.{_≤_}
+use lib.ListN.{length}
 use borrow.Author.Tests.{eq-eqb}
-use Rattle.lists.specs.laws.Append.{flat-append}
-use Rattle.lists.specs.laws.Pigeonhole.{flat-most, below64-most}
-use Rattle.rules_plan.specs.Plan.{Device, Link, Plan, Item, device, link, path, entry, timing}
-use Rattle.rules_plan.specs.Fields.{contentFor, fieldFor, fourBytes}
-use Rattle.rules_plan.specs.Canon.{items, written}
+use Rattle.lists.specs.laws.Pigeonhole.{below64-most}
+use Rattle.rules_plan.specs.Plan.{Device, Link, Plan, device, link}
 use Rattle.rules_plan.specs.Good.{Good, sameDeviceNumber, sameLinkNumber}
 use Rattle.rules_plan.specs.laws.Ranges.{device-range, link-range}
-use Rattle.rules_plan.specs.laws.Lengths.{path-length, entry-length}
-use Rattle.rules_plan.specs.laws.Items.{device-in, link-in, path-in, entry-in}
+use Rattle.rules_plan.specs.laws.Items.{device-in, link-in}
 use Rattle.rules_plan.specs.laws.Entries.{entries-most}
-
--- the fields of one kind
-fields-most : {A : Type 0} (make : A → Item) (most : ℕ) (xs : List A) → ((x : A) → List·Memᴰ x xs → length (fieldFor (make x)) ≤ most) → length (flatMap fieldFor (map make xs)) ≤ length xs * most
-fields-most make most xs h = rw length-map at (flat-most fieldFor most (map make xs) (λ y m. let (x, n, e) = Memᴰ·of-map make xs m in rw (← e) (h x n)))
 
 module _ (p : Plan) (good : Good p) where
   pub most-devices : length (p .devices) ≤ 64
@@ -30,20 +20,3 @@ module _ (p : Plan) (good : Good p) where
 
   pub most-entries : length (p .entries) ≤ 512
   most-entries = entries-most p (good .lengths) (good .ranges) (good .reached) (good .entries) (good .eight)
-
-  pub most-bytes : length (written p) ≤ 13_643
-  unfolding written items fieldFor contentFor fourBytes
-  most-bytes =
-      simp (flat-append, length-append) (omega (
-        arith,
-        most-devices,
-        most-links,
-        good .most,
-        most-entries,
-        good .timing,
-        fields-most device 5 (p .devices) (λ d m. omega arith),
-        fields-most link 6 (p .links) (λ l m. omega arith),
-        fields-most path 13 (p .paths) (λ x m. omega (arith, path-length x (good .lengths (path x) (path-in p x m)))),
-        fields-most entry 22 (p .entries) (λ e m. omega (arith, entry-length e (good .lengths (entry e) (entry-in p e m)))),
-        fields-most timing 11 (p .timings) (λ t m. omega arith),
-      ))

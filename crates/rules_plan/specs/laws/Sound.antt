@@ -5,8 +5,11 @@ use mathlib.Core.List.{List·Memᴰ}
 use mathlib.Core.Bool.{true, false}
 use Prim.Native.Nat.{ℕ, _≤_, _<_}
 use lib.ListN.{length}
-use Rattle.rules_plan.specs.Plan.{Entry, Plan}
+use Rattle.lists.specs.Search.{repeats}
+use Rattle.rules_plan.specs.Plan.{Entry, Times, Plan}
 use Rattle.rules_plan.specs.Meaning.{isInitiator, initiators, mayUse, runsInto}
+use Rattle.rules_plan.specs.Good.{samePathEnds}
+use Rattle.rules_plan.specs.laws.Sheets.{TimesRange}
 
 pub record Sound (p : Plan) : Type 0 where
   pub initiator : (e : Entry) → List·Memᴰ e (p .entries) → isInitiator p (e .initiator) ≡ true
@@ -20,3 +23,5 @@ pub record Sound (p : Plan) : Type 0 where
   pub no-clash : (s i j l : ℕ) → s < 64 → i ≢ j → mayUse p (p .entries) s i l ≡ true → mayUse p (p .entries) s j l ≡ true → ⊥
   pub eight : length (initiators p) ≤ 8
   pub small : (i : ℕ) → isInitiator p i ≡ true → i < 64
+  pub one-path : repeats samePathEnds (p .paths) ≡ false
+  pub times : (x : Times) → List·Memᴰ x (p .times) → TimesRange x

@@ -11,8 +11,8 @@ use Rattle.lists.specs.Search.{find, isSome, upFrom}
 use Rattle.lists.specs.laws.Bools.{some-some, none-some, is-some}
 use Rattle.lists.specs.laws.Search.{find-some}
 use Rattle.lists.specs.laws.Append.{spelled, every-member}
-use Rattle.rules_plan.specs.Plan.{nth, Item, device, link, path, entry, timing}
-use Rattle.rules_plan.specs.Fields.{Tag, tags, tagOf, isTag, itemOf, lengthAllowed, asDevice, asLink, asPath, asEntry, asTiming, fourBytes, tagFor, contentFor}
+use Rattle.rules_plan.specs.Plan.{nth, four, Item, device, link, path, entry, timing, times}
+use Rattle.rules_plan.specs.Fields.{Tag, tags, tagOf, isTag, itemOf, lengthAllowed, asDevice, asLink, asPath, asEntry, asTiming, asTimes, twoBytes, fourBytes, tagFor, contentFor}
 use Rattle.rules_plan.specs.Good.{Bytes}
 use Rattle.rules_plan.specs.laws.Lengths.{allowed}
 
@@ -22,7 +22,14 @@ record Reads (t : Tag) : Type 0 where
   size : (c : List ℕ) → t .shortest ≤ length c → length c ≤ t .longest → length (contentFor (t .reads c)) ≡ length c
   content : (c : List ℕ) → t .shortest ≤ length c → length c ≤ t .longest → Bytes c → contentFor (t .reads c) ≡ c
 
--- four bytes are their number's four bytes
+-- two and four bytes are their number's bytes
+two-back : (a b : ℕ) → b < 256 → twoBytes (a * 256 + b) ≡ a ∷ b ∷ []
+unfolding twoBytes
+two-back a b h =
+    let e : (a * 256 + b) / 256 ≡ a = omega arith in
+    let f : (a * 256 + b) % 256 ≡ b = omega arith in
+    rw (e, f)
+
 module _ (a b c d : ℕ) (ha : a < 256) (hb : b < 256) (hc : c < 256) (hd : d < 256) where
   four-back : fourBytes ((a * 256 + b) * 65_536 + (c * 256 + d)) ≡ a ∷ b ∷ c ∷ d ∷ []
   unfolding fourBytes
@@ -57,8 +64,17 @@ as-timing c h k b =
     rw (four-back (nth c 0) (nth c 1) (nth c 2) (nth c 3) (b 0) (b 1) (b 2) (b 3), four-back (nth c 4) (nth c 5) (nth c 6) (nth c 7) (b 4) (b 5) (b 6) (b 7))
     (sym (spelled c 0 8 0 (omega arith) ∙ rw (drop-of-length-le c {i = 8} k)))
 
+as-times : (c : List ℕ) → 22 ≤ length c → length c ≤ 22 → Bytes c → contentFor (asTimes c) ≡ c
+unfolding contentFor asTimes upFrom
+as-times c h k b =
+    rw (two-back (nth c 0) (nth c 1) (b 1), at-four 2, at-four 6, at-four 10, at-four 14, at-four 18)
+    (sym (spelled c 0 22 0 (omega arith) ∙ rw (drop-of-length-le c {i = 22} k)))
+  where
+    at-four : (n : ℕ) → fourBytes (four c n) ≡ nth c n ∷ nth c (n + 1) ∷ nth c (n + 2) ∷ nth c (n + 2 + 1) ∷ []
+    at-four n = four-back (nth c n) (nth c (n + 1)) (nth c (n + 2)) (nth c (n + 2 + 1)) (b n) (b (n + 1)) (b (n + 2)) (b (n + 2 + 1))
+
 reads-all : (t : Tag) → List·Memᴰ t tags → Reads t
-unfolding tags asDevice asLink asPath asEntry asTiming tagFor contentFor fourBytes
+unfolding tags asDevice asLink asPath asEntry asTiming asTimes tagFor contentFor twoBytes fourBytes
 reads-all = every-member Reads tags (
   record { tag = λ c. refl; size = λ c h k. ap length (as-device c h k); content = λ c h k b. as-device c h k },
   (
@@ -67,7 +83,10 @@ reads-all = every-member Reads tags (
       record { tag = λ c. refl; size = λ c h k. ap length (as-path c h); content = λ c h k b. as-path c h },
       (
         record { tag = λ c. refl; size = λ c h k. ap length (as-entry c h); content = λ c h k b. as-entry c h },
-        (record { tag = λ c. refl; size = λ c h k. omega arith; content = as-timing }, tt),
+        (
+          record { tag = λ c. refl; size = λ c h k. omega arith; content = as-timing },
+          (record { tag = λ c. refl; size = λ c h k. omega arith; content = as-times }, tt),
+        ),
       ),
     ),
   ),
@@ -108,6 +127,7 @@ item-tag (link l) = refl
 item-tag (path x) = refl
 item-tag (entry e) = refl
 item-tag (timing t) = refl
+item-tag (times x) = refl
 
 -- an item that was read: its tag, the length of its content, and, of bytes, its content
 module _ (n : ℕ) (c : List ℕ) (x : Item) (h : itemOf n c ≡ some x) where

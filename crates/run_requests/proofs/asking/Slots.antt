@@ -35,6 +35,14 @@ Aimed aims row slot targets = (p : Plan) → Sound p → aims ≡ aimsOf p → t
 abbrev pub Permitted : ℕ → ℕ → ℕ → ℕ → Bool → Type 0
 Permitted targets span t need x = x ≡ (member t targets && leb need span)
 
+-- no entry has a target over 63
+pub never-beyond : (p : Plan) → Sound p → (i t n : ℕ) → 64 ≤ t → mayStart p (p .entries) i t n ≡ false
+never-beyond p ok i t n beyond = go (mayStart p (p .entries) i t n) refl
+  where
+    go : (x : Bool) → mayStart p (p .entries) i t n ≡ x → x ≡ false
+    go true z = let (e, m, own, fit) = permitted-by p (p .entries) i t n z in absurd (omega (arith, ok .targets e m t (permits-target p e t n fit)))
+    go false z = refl
+
 module _ (spans aims : List ℕ) (row t need : ℕ) where
   slots-begin : Barred spans aims row t need 0
   slots-begin v h = absurd (omega arith)
@@ -85,14 +93,6 @@ module _ (spans aims : List ℕ) (row t need : ℕ) where
       slots-past slot before (λ p i n h e is.
       let told = (entry-told p (h .sound) row i (h .row) slot (spanRead p row slot) refl e is targets (aimed p (h .sound) (h .aims))) .1 in
       rw (told .targets t, z))
-
-  -- no entry has such a target
-  pub slots-beyond : 64 ≤ t → Tried spans aims row t need false
-  slots-beyond beyond p i n h = go (mayStart p (p .entries) i t n) refl
-    where
-      go : (x : Bool) → mayStart p (p .entries) i t n ≡ x → false ≡ x
-      go true z = let (e, m, own, fit) = permitted-by p (p .entries) i t n z in absurd (omega (arith, h .sound .targets e m t (permits-target p e t n fit)))
-      go false z = refl
 
   pub slots-done : (slot : ℕ) → 64 ≤ slot → Barred spans aims row t need slot → Tried spans aims row t need false
   unfolding mayStart

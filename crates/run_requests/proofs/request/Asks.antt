@@ -13,7 +13,9 @@ use Rattle.lists.specs.Place.{atPlace}
 use Rattle.lists.specs.laws.Bools.{cond-cases}
 use Rattle.rules_plan.specs.Plan.{Plan}
 use Rattle.rules_plan.specs.Meaning.{isInitiator, initiators, leastSpan}
+use Rattle.memory_plan.specs.Spans.{leastInWords}
 use Rattle.memory_plan.specs.View.{Timed, owner, ownerOf}
+use Rattle.memory_plan.specs.laws.Costs.{least-told}
 use Rattle.rules_box.specs.declared.Event.the-variants.{Request}
 use Rattle.rules_box.specs.declared.Answer.{Answer}
 use Rattle.rules_box.specs.declared.Answer.the-variants.{Refused}
@@ -33,6 +35,7 @@ use Rattle.memory_run.specs.laws.Found.{Rowed, plan-by-row, is-initiator, its-r
 use Rattle.memory_run.specs.laws.Refused.{refuses}
 use Rattle.run_requests.specs.NoRow.{noRow}
 use Rattle.run_requests.specs.NotPermitted.{notPermitted}
+use Rattle.run_requests.proofs.asking.Slots.{never-beyond}
 use Rattle.run_requests.proofs.no_row.Strangers.{refused-strange}
 
 module _
@@ -70,16 +73,29 @@ module _
       unfolding refusal refusals firstOf noPlan
       other-kind h = refuses room b w (Request i t k n) 23 refl (rw (there, own, lt-ltb 1 k h)) run last (f .runs)
 
-      module _ (kind : k ≤ 1) (need : ℕ) (least : (p : Plan) (j u : ℕ) → need ≡ leastSpan p j u n) (y : Bool) (tried : Tried spans aims row t need y) where
+      module _ (kind : k ≤ 1) where
+        -- where the plan does not permit it, 24 or 25
+        not-permitted : mayStart (thePlan b) ((thePlan b) .entries) i t n ≡ false → (r : Answer) → r ≡ notPermitted n → Gives r run
+        unfolding refusal refusals firstOf noPlan notPermitted
+        not-permitted may r is =
+            let some-row = cond-cases (λ (m : ℕ). eqb m 0 ≡ false) (ltb 4096 n) 24 25 (λ _. refl) (λ _. refl) in
+            rw is (refuses room b w (Request i t k n) _ some-row (rw (there, own, le-ltb 1 k kind, may)) run last (f .runs))
+
+        -- no entry has such a target
+        pub beyond : 64 ≤ t → (r : Answer) → r ≡ notPermitted n → Gives r run
+        beyond h = not-permitted (never-beyond (thePlan b) (f .fit .sound) i t n h)
+
+      module _ (kind : k ≤ 1) (low-target : t < 64) (need : ℕ) (words : need ≡ leastInWords numbers row t n) (y : Bool) (tried : Tried spans aims row t need y) where
+        least : need ≡ leastSpan (thePlan b) i t n
+        unfolding thePlan
+        least = words ∙ least-told (thePlan b) _ numbers (f .plan .timed .numbers) (f .plan .sound) row i t at low-target n
+
         may : mayStart (thePlan b) ((thePlan b) .entries) i t n ≡ y
         unfolding thePlan
-        may = sym (tried (thePlan b) i n (record { sound = f .plan .sound; spans = f .plan .spans; aims = f .plan .aims; row = at; need = least (thePlan b) i t }))
+        may = sym (tried (thePlan b) i n (record { sound = f .plan .sound; spans = f .plan .spans; aims = f .plan .aims; row = at; need = least }))
 
         pub barred : y ≡ false → (r : Answer) → r ≡ notPermitted n → Gives r run
-        unfolding refusal refusals firstOf noPlan notPermitted
-        barred h r is =
-            let some-row = cond-cases (λ (m : ℕ). eqb m 0 ≡ false) (ltb 4096 n) 24 25 (λ _. refl) (λ _. refl) in
-            rw is (refuses room b w (Request i t k n) _ some-row (rw (there, own, le-ltb 1 k kind, may, h)) run last (f .runs))
+        barred h = not-permitted kind (may ∙ h)
 
         module _ (permitted : y ≡ true) where
           last-row : (z : Bool) → isFull (b .side i) ≡ z → refusal room b (Request i t k n) ≡ cond z 26 0
@@ -96,7 +112,7 @@ module _
           unfolding askedAnswer askedSide accepts
           asks r size part twelve does =
               go (isFull (b .side i)) refl
-              (on-row b run last (f .runs) i row at askedAnswer (askedSide t k n) r size part (f .fit) low twelve (λ s fit is. does (thePlan b) s fit (least (thePlan b) i t) is))
+              (on-row b run last (f .runs) i row at askedAnswer (askedSide t k n) r size part (f .fit) low twelve (λ s fit is. does (thePlan b) s fit least is))
             where
               go : (z : Bool) → isFull (b .side i) ≡ z
                   → (r ≡ askedAnswer (b .side i)) × (take (row * 12) run ++ (part ++ drop size (drop (row * 12) run)) ≡ rowsWith (ownerOf (thePlan b)) (changed row (askedSide t k n (b .side i)) (sideOf (thePlan b) (b .side))))

@@ -78,8 +78,18 @@ made-of-read k cells = go k
     go kind.Reading = rw (cell 1 0 (omega arith))
     go kind.Out = rw (cell 1 0 (omega arith))
     go kind.SetWatchdog = rw (cell 5 0 (omega arith), cell 5 1 (omega arith), cell 5 2 (omega arith), cell 5 3 (omega arith), cell 5 4 (omega arith))
+    go kind.Sheet =
+        rw (
+          cell 7 0 (omega arith),
+          cell 7 1 (omega arith),
+          cell 7 2 (omega arith),
+          cell 7 3 (omega arith),
+          cell 7 4 (omega arith),
+          cell 7 5 (omega arith),
+          cell 7 6 (omega arith),
+        )
 
-pub few : (k : Kind) → length (mosts k) ≤ 5
+pub few : (k : Kind) → length (mosts k) ≤ 7
 unfolding mosts
 few kind.TimeCode = omega arith
 few kind.Request = omega arith
@@ -87,6 +97,7 @@ few kind.Reply = omega arith
 few kind.Reading = omega arith
 few kind.Out = omega arith
 few kind.SetWatchdog = omega arith
+few kind.Sheet = omega arith
 
 module _ {ms cells₀ cells : List ℕ} {r : Bool} (k : Kind) (bounds : ms ≡ mosts k) where
   pub numbers-bad : (ws : List (List ℕ)) → NumbersRead ms ws cells₀ cells r → not r ≡ true → Bad ≡ numbered k ws

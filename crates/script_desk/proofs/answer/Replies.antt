@@ -6,17 +6,20 @@ use Prim.Native.Nat.{ℕ, _-_, _≤_}
 use lib.ListN.{length, take, drop, replicate}
 use Rattle.lists.specs.laws.Parts.{from-to-end}
 use Rattle.rules_plan.specs.Print.{text}
+use Rattle.rules_plan.specs.declared.Sheet as sheets
+use Rattle.rules_plan.specs.Sheet.{sheetAnswer}
+use Rattle.time_sheet.specs.Paced.{paced}
 use Rattle.rules_box.specs.declared.Event.the-variants as event
 use Rattle.rules_box.specs.declared.Watchdog as five
 use Rattle.box_calls.specs.Calls.{Memory, ClearLeaves}
 use Rattle.script_hex.specs.Hex.{bytesOf, decoded}
 use Rattle.script_hex.specs.laws.Bytes.{bytes-decoded}
 use Rattle.script_commands.specs.declared.command.Command.{Command}
-use Rattle.script_commands.specs.declared.command.Command.the-variants.{Skip, Bad, Load, Clear, TimeCode, Request, Reply, Reading, Out, Watchdog, SetWatchdog}
+use Rattle.script_commands.specs.declared.command.Command.the-variants.{Skip, Bad, Load, Clear, TimeCode, Request, Reply, Reading, Out, Watchdog, SetWatchdog, Sheet}
 use Rattle.script_commands.specs.Script.{commandOf}
 use Rattle.script_commands.specs.laws.Loads.{load-line}
 use Rattle.script_commands.specs.laws.Rooms.{Rooms, line-rooms}
-use Rattle.script_answers.specs.Texts.{ended, errorLine, watchdogLine, Prints}
+use Rattle.script_answers.specs.Texts.{ended, errorLine, watchdogLine, sheetLine, Prints}
 use Rattle.script_desk.specs.Replay.{Kept, fiveOf, kept, Loaded, Stepped, WrittenOut, Replied, Answers}
 
 answers-as : {P Q : List ℕ → Type 0} {l o : List ℕ} {k : ℕ} → ((t : List ℕ) → P t → Q t) → Answers P l o k → Answers Q l o k
@@ -44,6 +47,11 @@ module _ (line : List ℕ) (n : ℕ) {c : Command} (e : c ≡ commandOf line) wh
     pub watchdog : c ≡ Watchdog → Prints (watchdogLine (k .five)) l o end → Answers (Replied (commandOf line) line n k k) l o end
     unfolding Replied
     watchdog f p = rw (is f) (record { printed = watchdogLine (k .five); told = (refl, refl); prints = p })
+
+    pub sheet : {r s size a d f g : ℕ} {x : sheets.Sheet} → c ≡ Sheet r s size a d f g → x ≡ sheetAnswer (paced s a d f g) r r size → Prints (sheetLine x) l o end
+        → Answers (Replied (commandOf line) line n k k) l o end
+    unfolding Replied
+    sheet {x} f g p = rw (is f) (record { printed = sheetLine x; told = (refl, ap sheetLine g); prints = p })
 
     pub set : {last seen reported least greatest : ℕ} {w : five.Watchdog} → c ≡ SetWatchdog last seen reported least greatest → w ≡ fiveOf last seen reported least greatest → Prints (ended (text "OK")) l o end
         → Answers (Replied (commandOf line) line n k (kept (k .memory) w)) l o end

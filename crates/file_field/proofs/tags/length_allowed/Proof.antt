@@ -23,6 +23,9 @@ between-requires-4 c κs = search needs
 between-requires-5 : tie.Need-between-requires-5
 between-requires-5 c κs = search needs
 
+between-requires-6 : tie.Need-between-requires-6
+between-requires-6 c κs = search needs
+
 returns : tie.Need-returns
 unfolding find tags tagOf
 returns c = c .between .ensures ∙ allowed-by (c .before .before .args .size) (c .before .match .keys1) refl
@@ -44,7 +47,11 @@ unfolding find tags tagOf
 returns-5 c = c .between5 .ensures ∙ allowed-by (c .before .before .args .size) (c .before .match .keys5) refl
 
 returns-6 : tie.Need-returns-6
-returns-6 c = none-allowed (c .before .args .tag) (c .before .args .size) (omega arith)
+unfolding find tags tagOf
+returns-6 c = c .between6 .ensures ∙ allowed-by (c .before .before .args .size) (c .before .match .keys6) refl
+
+returns-7 : tie.Need-returns-7
+returns-7 c = none-allowed (c .before .args .tag) (c .before .args .size) (omega arith)
 
 pub length-allowed-spec : {M : Type 1} → statement M
 length-allowed-spec =
@@ -55,9 +62,11 @@ length-allowed-spec =
     between-requires-3
     between-requires-4
     between-requires-5
+    between-requires-6
     returns
     returns-2
     returns-3
     returns-4
     returns-5
-    returns-6)
+    returns-6
+    returns-7)

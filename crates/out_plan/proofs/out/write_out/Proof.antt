@@ -1,4 +1,4 @@
--- `write_out` meets its contract: memory with an interval of 0 holds no plan, and of a plan the five kinds of fields are put one behind
+-- `write_out` meets its contract: memory with an interval of 0 holds no plan, and of a plan the six kinds of fields are put one behind
 -- the other. Assumes nothing.
 use mathlib.Core.Logic.{_≢_}
 use borrow.Author.Needs.{needs}
@@ -80,12 +80,16 @@ element-copy-out-put-timing-2 c = search needs
 put-timing-requires : tie.Need-put-timing-requires
 put-timing-requires c κs = search needs
 
+put-times-requires : tie.Need-put-times-requires
+put-times-requires c κs = search needs
+
 same-length : tie.Need-same-length
 same-length c = search needs
 
 returns-3 : tie.Need-returns-3
 returns-3 c o reach =
-    let t = c .before .before in
+    let x = c .before .before in
+    let t = x .before .before .before .before in
     let e = t .before .before .before .before .before .before in
     let p = e .before .before .before .before .before .before in
     let l = p .before .before .before .before .before .before in
@@ -94,7 +98,7 @@ returns-3 c o reach =
     let a = i .before .before .before .before .before .args in
     writes (a .sets .now) (a .ends .now) (a .rows .now) reach (a .paths .now) (a .spans .now) (a .aims .now) (a .numbers .now) (a .out .now) (loaded (i .before .before)) (i .if2 .left)
     (out-puts (a .sets .now) (a .ends .now) (a .rows .now) (a .paths .now) (a .spans .now) (a .aims .now) (a .numbers .now)
-    (d .put-devices .ensures) (l .put-links .ensures) (p .before .at-most .ensures) (p .put-paths .ensures) (e .before .at-most2 .ensures) (e .put-entries .ensures) (t .put-timing .ensures)) o
+    (d .put-devices .ensures) (l .put-links .ensures) (p .before .at-most .ensures) (p .put-paths .ensures) (e .before .at-most2 .ensures) (e .put-entries .ensures) (t .put-timing .ensures) (x .put-times .ensures)) o
 
 pub write-out-spec : {M : Type 1} → statement M
 write-out-spec =
@@ -121,5 +125,6 @@ write-out-spec =
     element-copy-out-put-timing
     element-copy-out-put-timing-2
     put-timing-requires
+    put-times-requires
     same-length
     returns-3)

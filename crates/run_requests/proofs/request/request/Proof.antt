@@ -2,7 +2,7 @@
 use Prim.Native.Nat.{_+_, _-_, _*_}
 use native.Mathlib.Omega.{arith}
 use borrow.Author.Tests.{not-true, not-false}
-use Rattle.run_requests.proofs.request.Asks.{stranger, other-kind, barred, asks}
+use Rattle.run_requests.proofs.request.Asks.{stranger, other-kind, beyond, barred, asks}
 use borrow.Author.Needs.{needs}
 use Rattle.memory_plan.specs.laws.RowFor.{row-told, none-told, none-behind}
 use Rattle.run_requests.proofs.request.request.Statement.{statement}
@@ -49,27 +49,40 @@ returns-3 c =
     other-kind f room w (a .initiator) (a .target) (a .kind) (a .length) (r .result)
     (λ size p ok rs ns. row-told p ok size (a .rows .now) (a .numbers .now) rs ns (a .initiator) (r .result) (r .ensures) (c .before .if2 .left)) (omega arith) (c .if3 .taken)
 
+not-permitted-requires : tie.Need-not-permitted-requires
+not-permitted-requires c κs = search needs
+
+returns-4 : tie.Need-returns-4
+returns-4 c =
+    let s = c .before .before .before in
+    let r = s .before .before .before .first-row in
+    let a = s .before .before .before .before .before .args in
+    λ b last f room w.
+    beyond f room w (a .initiator) (a .target) (a .kind) (a .length) (r .result)
+    (λ size p ok rs ns. row-told p ok size (a .rows .now) (a .numbers .now) rs ns (a .initiator) (r .result) (r .ensures) (s .if2 .left))
+    (omega arith) (omega arith) (c .before .if4 .taken) (c .not-permitted .result) (c .not-permitted .ensures)
+
 least-span-requires : tie.Need-least-span-requires
 least-span-requires c κs = search needs
 
 may-start-requires : tie.Need-may-start-requires
 may-start-requires c κs = search needs
 
-not-permitted-requires : tie.Need-not-permitted-requires
-not-permitted-requires c κs = search needs
+not-permitted-requires-2 : tie.Need-not-permitted-requires-2
+not-permitted-requires-2 c κs = search needs
 
-returns-4 : tie.Need-returns-4
-returns-4 c =
+returns-5 : tie.Need-returns-5
+returns-5 c =
     let y = c .before .before .may-start in
-    let n = c .before .before .before .least-span in
-    let e = c .before .before .before .before .before .if2 in
-    let r = c .before .before .before .before .before .before .before .before .first-row in
-    let a = c .before .before .before .before .before .before .before .before .before .before .args in
+    let d = c .before .before .before in
+    let s = d .before .before .before in
+    let r = s .before .before .before .first-row in
+    let a = s .before .before .before .before .before .args in
     λ b last f room w.
     barred f room w (a .initiator) (a .target) (a .kind) (a .length) (r .result)
-    (λ size p ok rs ns. row-told p ok size (a .rows .now) (a .numbers .now) rs ns (a .initiator) (r .result) (r .ensures) (e .left))
-    (omega arith) (omega arith) (n .result) (n .ensures) (y .result) (y .ensures)
-    (not-true _ (c .before .if4 .taken)) (c .not-permitted .result) (c .not-permitted .ensures)
+    (λ size p ok rs ns. row-told p ok size (a .rows .now) (a .numbers .now) rs ns (a .initiator) (r .result) (r .ensures) (s .if2 .left))
+    (omega arith) (omega arith) (d .before .if4 .left) (d .least-span .result) (d .least-span .ensures) (y .result) (y .ensures)
+    (not-true _ (c .before .if5 .taken)) (c .not-permitted2 .result) (c .not-permitted2 .ensures)
 
 mul-ask-row : tie.Need-mul-ask-row
 mul-ask-row c = search needs
@@ -98,20 +111,20 @@ ask-row-requires c κs = search needs
 same-length : tie.Need-same-length
 same-length c = search needs
 
-returns-5 : tie.Need-returns-5
-returns-5 c =
+returns-6 : tie.Need-returns-6
+returns-6 c =
     let m = c .before .before .ask-row in
     let y = c .before .before .before .before .before .may-start in
-    let n = c .before .before .before .before .before .before .least-span in
-    let e = c .before .before .before .before .before .before .before .before .if2 in
-    let r = c .before .before .before .before .before .before .before .before .before .before .before .first-row in
-    let a = c .before .before .before .before .before .before .before .before .before .before .before .before .before .args in
+    let d = c .before .before .before .before .before .before in
+    let s = d .before .before .before in
+    let r = s .before .before .before .first-row in
+    let a = s .before .before .before .before .before .args in
     let whole = r .result * 12 + 12 - r .result * 12 in
     λ b last f room w.
     asks f room w (a .initiator) (a .target) (a .kind) (a .length) (r .result)
-    (λ size p ok rs ns. row-told p ok size (a .rows .now) (a .numbers .now) rs ns (a .initiator) (r .result) (r .ensures) (e .left))
-    (omega arith) (omega arith) (n .result) (n .ensures) (y .result) (y .ensures)
-    (not-false _ (c .before .before .before .before .if4 .left)) (m .result) whole (m .last .0) (omega arith) (m .ensures)
+    (λ size p ok rs ns. row-told p ok size (a .rows .now) (a .numbers .now) rs ns (a .initiator) (r .result) (r .ensures) (s .if2 .left))
+    (omega arith) (omega arith) (d .before .if4 .left) (d .least-span .result) (d .least-span .ensures) (y .result) (y .ensures)
+    (not-false _ (c .before .before .before .before .if5 .left)) (m .result) whole (m .last .0) (omega arith) (m .ensures)
 
 pub request-spec : {M : Type 1} → statement M
 request-spec =
@@ -125,10 +138,12 @@ request-spec =
     no-row-requires-2
     returns-2
     returns-3
-    least-span-requires
-    may-start-requires
     not-permitted-requires
     returns-4
+    least-span-requires
+    may-start-requires
+    not-permitted-requires-2
+    returns-5
     mul-ask-row
     mul-ask-row-2
     add-ask-row
@@ -138,4 +153,4 @@ request-spec =
     part-ask-row-end
     ask-row-requires
     same-length
-    returns-5)
+    returns-6)

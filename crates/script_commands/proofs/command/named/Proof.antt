@@ -76,9 +76,17 @@ returns-9 c =
     by-name (a .line .now) (a .end) (text "setwd") ((t .before .same9 .ensures .0) (t .if9 .taken)) (c .numbered6 .ensures)
 
 returns-10 : tie.Need-returns-10
-unfolding text
+unfolding same text named commands
 returns-10 c =
-    let s9 = c .before in
+    let t = c .before .before in
+    let a = t .before .before .before .before .before .before .before .before .before .before .before .before .before .before .before .before .before .before .before .before .before .before .before .before .before .before .before .before .before .before .before .before .args in
+    by-name (a .line .now) (a .end) (text "sheet") ((t .before .same10 .ensures .0) (t .if10 .taken)) (c .numbered7 .ensures)
+
+returns-11 : tie.Need-returns-11
+unfolding text
+returns-11 c =
+    let s10 = c .before in
+    let s9 = s10 .before .before .before in
     let s8 = s9 .before .before .before in
     let s7 = s8 .before .before .before in
     let s6 = s7 .before .before .before in
@@ -92,7 +100,8 @@ returns-10 c =
     no-name name (behindWord (drop (a .end) (a .line .now)))
     (same-says name (text "load") (s1 .same .ensures) ∙ s2 .before .before .if1 .left) (same-says name (text "clear") (s2 .same2 .ensures) ∙ s3 .before .before .if2 .left) (same-says name (text "tc") (s3 .same3 .ensures) ∙ s4 .before .before .if3 .left)
     (same-says name (text "req") (s4 .same4 .ensures) ∙ s5 .before .before .if4 .left) (same-says name (text "rep") (s5 .same5 .ensures) ∙ s6 .before .before .if5 .left) (same-says name (text "clk") (s6 .same6 .ensures) ∙ s7 .before .before .if6 .left)
-    (same-says name (text "out") (s7 .same7 .ensures) ∙ s8 .before .before .if7 .left) (same-says name (text "wd") (s8 .same8 .ensures) ∙ s9 .before .before .if8 .left) (same-says name (text "setwd") (s9 .same9 .ensures) ∙ c .if9 .left)
+    (same-says name (text "out") (s7 .same7 .ensures) ∙ s8 .before .before .if7 .left) (same-says name (text "wd") (s8 .same8 .ensures) ∙ s9 .before .before .if8 .left) (same-says name (text "setwd") (s9 .same9 .ensures) ∙ s10 .before .before .if9 .left)
+    (same-says name (text "sheet") (s10 .same10 .ensures) ∙ c .if10 .left)
 
 pub named-spec : {M : Type 1} → statement M
 unfolding mosts
@@ -142,4 +151,9 @@ named-spec =
     (λ c. search needs)
     (λ c κs. (c .before .before .before .before .before .before .before .before .before .before .before .before .before .before .before .before .before .before .before .before .before .before .before .before .before .before .before .before .before .before .pre, refl))
     returns-9
-    returns-10)
+    (λ c. search needs)
+    (λ c κs. search needs)
+    (λ c. search needs)
+    (λ c κs. (c .before .before .before .before .before .before .before .before .before .before .before .before .before .before .before .before .before .before .before .before .before .before .before .before .before .before .before .before .before .before .before .before .before .pre, refl))
+    returns-10
+    returns-11)

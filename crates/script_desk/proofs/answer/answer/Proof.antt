@@ -1,7 +1,7 @@
--- `desk::answer::answer` meets its contract: the line is one of the eleven commands. Assumes nothing.
+-- `desk::answer::answer` meets its contract: the line is one of the twelve commands. Assumes nothing.
 use borrow.Author.Needs.{needs}
 use Rattle.rules_plan.specs.Print.{text}
-use Rattle.script_desk.proofs.answer.Replies.{skip, bad, load, clear, time-code, request, reply, reading, out, watchdog, set, load-within, records-within, out-within}
+use Rattle.script_desk.proofs.answer.Replies.{skip, bad, load, clear, time-code, request, reply, reading, out, watchdog, set, sheet, load-within, records-within, out-within}
 use Rattle.script_desk.proofs.answer.answer.Statement.{statement}
 use Rattle.script_desk.proofs.answer.answer.Tie as tie
 
@@ -108,6 +108,15 @@ slice-aggregate-put-word-2 c = search needs
 put-word-requires-2 : tie.Need-put-word-requires-2
 put-word-requires-2 c κs = search needs
 
+enum-known-command-8 : tie.Need-enum-known-command-8
+enum-known-command-8 c = search needs
+
+sheet-requires : tie.Need-sheet-requires
+sheet-requires c κs = search needs
+
+put-sheet-requires : tie.Need-put-sheet-requires
+put-sheet-requires c κs = search needs
+
 returns : tie.Need-returns
 returns c =
     let e = c in
@@ -187,6 +196,13 @@ returns-11 c =
     let a = m .before .before .args in
     set (a .line .now) (a .number) (m .command-of .ensures) _ (e .command7 .given .1) (c .before .before .before .five-of .ensures) (c .put-word2 .ensures)
 
+returns-12 : tie.Need-returns-12
+returns-12 c =
+    let e = c .before .before .before .before in
+    let m = e .before .before in
+    let a = m .before .before .args in
+    sheet (a .line .now) (a .number) (m .command-of .ensures) _ (e .command8 .given .1) (c .before .before .sheet .ensures) (c .put-sheet .ensures)
+
 pub answer-spec : {M : Type 1} → statement M
 answer-spec =
     tie.close
@@ -222,6 +238,9 @@ answer-spec =
     five-of-requires
     slice-aggregate-put-word-2
     put-word-requires-2
+    enum-known-command-8
+    sheet-requires
+    put-sheet-requires
     returns
     returns-2
     returns-3
@@ -232,4 +251,5 @@ answer-spec =
     returns-8
     returns-9
     returns-10
-    returns-11)
+    returns-11
+    returns-12)
