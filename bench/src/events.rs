@@ -3,6 +3,7 @@
 
 use crate::sides::{Proved, Reference, Side};
 use crate::timing::{by_turns, print_row, Least, ROUNDS};
+use compare::large;
 use spwd::READ;
 use std::array::from_fn;
 use std::hint::black_box;
@@ -85,20 +86,20 @@ impl<S: Side> Events<S> {
 
     /// Full lines, then as many time-codes as empty them, with something live before each: it ends eight transactions as late and
     /// starts eight.
-    fn late_round(&mut self, times: &mut Times) {
-        times.request.take(REQUESTS, || self.requests());
-        times.time_code.take(TIME_CODES, || {
+    fn late_round(&mut self, taken: &mut Taken) {
+        taken.request.take(REQUESTS, || self.requests());
+        taken.time_code.take(TIME_CODES, || {
             (0..WAITING).for_each(|_| self.time_code(2 * INITIATORS))
         });
-        times.reading.take(ALL_READINGS, || self.readings());
+        taken.reading.take(ALL_READINGS, || self.readings());
     }
 
     /// The same with a reply to each transaction.
-    fn answered_round(&mut self, times: &mut Times) {
+    fn answered_round(&mut self, taken: &mut Taken) {
         self.requests();
         for _ in 0..WAITING {
             self.time_code(INITIATORS);
-            times.reply.take(REPLIES, || self.replies());
+            taken.reply.take(REPLIES, || self.replies());
         }
     }
 }
@@ -110,21 +111,52 @@ const ALL_READINGS: usize = BOXES * READINGS;
 
 /// The least times of a side.
 #[derive(Default)]
-struct Times {
+struct Taken {
     request: Least,
     time_code: Least,
     reply: Least,
     reading: Least,
 }
 
-/// Times all events and prints their rows.
+/// Times all events under the plan, and those that a plan's times bear on under the same with times, and prints their rows.
 pub fn print_events(maximal: &[u8]) {
-    let mut ours = Events::<Proved>::under(maximal);
-    let mut theirs = Events::<Reference>::under(maximal);
-    let (mut times, mut their_times) = (Times::default(), Times::default());
+    let timed = large::timed(maximal);
+    let (ours, theirs) = least_of_events(maximal);
+    let (ours_timed, theirs_timed) = least_of_events(&timed);
+    for (name, least, their_least) in [
+        (
+            "time-code, 8 endings and 8 starts",
+            &ours.time_code,
+            &theirs.time_code,
+        ),
+        (
+            "time-code, 8 endings and 8 starts, with times",
+            &ours_timed.time_code,
+            &theirs_timed.time_code,
+        ),
+        ("request", &ours.request, &theirs.request),
+        (
+            "request, with times",
+            &ours_timed.request,
+            &theirs_timed.request,
+        ),
+        ("reply", &ours.reply, &theirs.reply),
+        ("reading", &ours.reading, &theirs.reading),
+    ] {
+        print_row(name, "", "", least, their_least);
+    }
+    print_not_permitted("request, refused with 25", maximal);
+    print_not_permitted("request, refused with 25, with times", &timed);
+}
+
+/// Of both sides under a plan.
+fn least_of_events(file: &[u8]) -> (Taken, Taken) {
+    let mut ours = Events::<Proved>::under(file);
+    let mut theirs = Events::<Reference>::under(file);
+    let (mut taken, mut their_taken) = (Taken::default(), Taken::default());
     for _ in 0..ROUNDS {
-        ours.answered_round(&mut times);
-        theirs.answered_round(&mut their_times);
+        ours.answered_round(&mut taken);
+        theirs.answered_round(&mut their_taken);
     }
     // Something live for the first time-code to end.
     ours.requests();
@@ -134,29 +166,17 @@ pub fn print_events(maximal: &[u8]) {
     (1..WAITING).for_each(|_| ours.time_code(2 * INITIATORS));
     (1..WAITING).for_each(|_| theirs.time_code(2 * INITIATORS));
     for _ in 0..ROUNDS {
-        ours.late_round(&mut times);
-        theirs.late_round(&mut their_times);
+        ours.late_round(&mut taken);
+        theirs.late_round(&mut their_taken);
     }
     assert!(!ours.wrong && !theirs.wrong, "an event went wrong");
-    for (name, least, their_least) in [
-        (
-            "time-code, 8 endings and 8 starts",
-            &times.time_code,
-            &their_times.time_code,
-        ),
-        ("request", &times.request, &their_times.request),
-        ("reply", &times.reply, &their_times.reply),
-        ("reading", &times.reading, &their_times.reading),
-    ] {
-        print_row(name, "", "", least, their_least);
-    }
-    print_not_permitted(maximal);
+    (taken, their_taken)
 }
 
 /// A request that no entry permits, though its initiator has one in every slot: refused with 25.
-fn print_not_permitted(maximal: &[u8]) {
+fn print_not_permitted(name: &str, file: &[u8]) {
     let (mut ours, mut theirs) = (Proved::new(), Reference::new());
-    let loaded = (ours.load(maximal), theirs.load(maximal));
+    let loaded = (ours.load(file), theirs.load(file));
     assert_eq!(loaded, (0, 0), "the plan is refused");
     let answers = (
         ours.request(7, 16, READ, 256),
@@ -173,5 +193,5 @@ fn print_not_permitted(maximal: &[u8]) {
             black_box(black_box(&mut theirs).request(initiator, target, kind, length));
         },
     );
-    print_row("request, refused with 25", "", "", &least, &their_least);
+    print_row(name, "", "", &least, &their_least);
 }

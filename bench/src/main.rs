@@ -20,12 +20,12 @@ fn main() {
     });
     let maximal = large::maximal();
     print_head();
-    load("load plan A", &plan_a);
-    load("load plan A, an entry overrun", &plan_a_overrun);
-    load("load a maximal plan", &maximal);
+    both_loads("load plan A", &plan_a);
+    both_loads("load plan A, an entry overrun", &plan_a_overrun);
+    both_loads("load a maximal plan", &maximal);
     load("load a maximal plan, falling", &large::falling(&maximal));
     let overrun = large::overrun(&maximal);
-    load("load a maximal plan, an entry overrun", &overrun);
+    both_loads("load a maximal plan, an entry overrun", &overrun);
     for (part, tags) in [("links", 1..=2), ("paths", 1..=3), ("entries", 1..=4)] {
         let name = format!("load a maximal plan up to its {part}");
         load(&name, &large::only(&Vec::from_iter(tags), &maximal));
@@ -55,6 +55,12 @@ fn loaded(file: &[u8]) -> (Proved, Reference, String) {
     assert_eq!(sizes.0, sizes.1, "the sizes written out differ");
     assert!(out == their_out, "the plans written out differ");
     (ours, theirs, verdict.trim_end().to_owned())
+}
+
+/// A plan, and the same with times.
+fn both_loads(name: &str, file: &[u8]) {
+    load(name, file);
+    load(&format!("{name}, with times"), &large::timed(file));
 }
 
 fn load(name: &str, file: &[u8]) {
@@ -97,7 +103,7 @@ fn clear() {
 fn print_memory() {
     let watchdog = size_of::<reference::Watchdog>();
     println!(
-        "\n{:<38}{:>10}{:>11}",
+        "\n{:<50}{:>10}{:>11}",
         "memory, bytes", "proved", "reference"
     );
     for (name, ours, theirs) in [
@@ -108,6 +114,6 @@ fn print_memory() {
             (size_of::<reference::Unit>() + watchdog).to_string(),
         ),
     ] {
-        println!("{name:<38}{ours:>10}{theirs:>11}");
+        println!("{name:<50}{ours:>10}{theirs:>11}");
     }
 }

@@ -36,7 +36,7 @@ impl Least {
 /// The heads of the columns.
 pub fn print_head() {
     println!(
-        "{:<38}{:>7}  {:<23}{:>10}{:>11}{:>7}",
+        "{:<50}{:>7}  {:<23}{:>10}{:>11}{:>7}",
         "one call, ns", "bytes", "verdict", "proved", "reference", "ratio"
     );
 }
@@ -45,7 +45,7 @@ pub fn print_head() {
 pub fn print_row(name: &str, size: &str, verdict: &str, least: &Least, their_least: &Least) {
     let ratio = least.0 / their_least.0;
     println!(
-        "{name:<38}{size:>7}  {verdict:<23}{:>10.1}{:>11.1}{ratio:>7.2}",
+        "{name:<50}{size:>7}  {verdict:<23}{:>10.1}{:>11.1}{ratio:>7.2}",
         least.0, their_least.0
     );
 }

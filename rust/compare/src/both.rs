@@ -1,8 +1,10 @@
 //! The two boxes side by side: the same calls, and everything that they give back and leave compared, byte by byte.
 
+use crate::sheets::Sheet;
 use crate::theirs;
 use reference::Unit;
 use spwd::{Answer, Event, Plan, Record, Refusal, Spwd, Verdict, Watchdog};
+use spwd::{Latencies, SheetOutOfRange};
 use spwd::{LINE_ROOM, RECORD_SIZE, WRITTEN_MOST};
 use std::fmt::Debug;
 
@@ -71,19 +73,19 @@ impl Both {
         self.watchdog = theirs::watchdog(five);
     }
 
-    /// Loads the file into both and gives the verdict's number.
-    pub fn load(&mut self, file: &[u8]) -> Outcome<u8> {
+    /// Loads the file into both and gives the verdict in document 01's numbers.
+    pub fn load(&mut self, file: &[u8]) -> Outcome<[u32; 5]> {
         let verdict = Verdict::from(self.proved.load(file));
         let their_verdict = self.unit.load(file, &mut self.watchdog);
         let their_numbers = theirs::verdict(&their_verdict);
-        same("verdict", verdict.numbers(), their_numbers)?;
+        let numbers = same("verdict", verdict.numbers(), their_numbers)?;
         let (mut line, mut their_line) = ([FILLED; LINE_ROOM], [FILLED; LINE_ROOM]);
         let size = verdict.print(&mut line);
         let their_size = reference::print_verdict(&their_verdict, &mut their_line);
         same("size of the printed line", size, their_size)?;
         same("printed line and buffer beyond it", line, their_line)?;
         self.same_five()?;
-        Ok(verdict.number())
+        Ok(numbers)
     }
 
     pub fn clear(&mut self) -> Outcome<()> {
@@ -141,6 +143,15 @@ impl Both {
             holds,
         })
     }
+}
+
+/// The time sheet of both; whether it is accepted.
+pub fn same_sheet(sheet: &Sheet) -> Outcome<bool> {
+    let [a, d, f, g] = sheet.latencies;
+    let latencies = Latencies { a, d, f, g };
+    let answer = spwd::sheet(sheet.routers, sheet.rate, sheet.length, latencies);
+    let answer = answer.map_err(|SheetOutOfRange| SheetOutOfRange::NUMBER);
+    Ok(same("sheet", answer, theirs::sheet(sheet))?.is_ok())
 }
 
 /// The plan written out by both; the number of the answer.

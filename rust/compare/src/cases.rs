@@ -1,11 +1,14 @@
-//! The cases: files, histories, and a history so long that transaction numbers run round.
+//! The cases: files, histories, a history so long that transaction numbers run round, times at their bounds, and sheets.
 
-use crate::both::{Answered, Both, Difference, Outcome, Question};
+use crate::both::{same_sheet, Answered, Both, Difference, Outcome, Question};
 use crate::damage::{damaged, noise};
+use crate::decided::Watcher;
 use crate::events::{five, Actor};
 use crate::plans;
 use crate::random::Random;
+use crate::sheets::{self, Sheet};
 use crate::tally::Tally;
+use crate::times;
 use spwd::{Answer, Event, READ, RECORDS_ROOM, WRITTEN_MOST};
 
 /// A case that showed a difference.
@@ -24,6 +27,7 @@ pub struct Case<'a> {
     random: Random,
     tally: &'a mut Tally,
     actor: Actor,
+    watcher: Watcher,
     file: Vec<u8>,
     call: String,
 }
@@ -35,6 +39,7 @@ impl<'a> Case<'a> {
             random,
             tally,
             actor: Actor::default(),
+            watcher: Watcher::default(),
             file: Vec::new(),
             call: String::new(),
         }
@@ -55,6 +60,18 @@ impl<'a> Case<'a> {
     /// One initiator with a start in each slot, until it has had all numbers and some again.
     pub fn round(mut self) -> Result<(), Box<Failure>> {
         let outcome = self.all_numbers();
+        self.told(outcome)
+    }
+
+    /// A plan with each number of its times at each bound.
+    pub fn times(mut self) -> Result<(), Box<Failure>> {
+        let outcome = self.times_at_bounds();
+        self.told(outcome)
+    }
+
+    /// Time sheets: all bounds with each other, and so many at random.
+    pub fn sheets(mut self, count: u64) -> Result<(), Box<Failure>> {
+        let outcome = self.all_sheets(count);
         self.told(outcome)
     }
 
@@ -136,14 +153,40 @@ impl<'a> Case<'a> {
         Ok(())
     }
 
+    fn times_at_bounds(&mut self) -> Outcome<()> {
+        let plan = plans::each_slot(&mut self.random);
+        for times in times::at_bounds() {
+            self.load([&plan[..], &times.field()].concat())?;
+            self.step()?;
+        }
+        Ok(())
+    }
+
+    fn all_sheets(&mut self, count: u64) -> Outcome<()> {
+        for sheet in sheets::at_bounds() {
+            self.sheet(sheet)?;
+        }
+        for _ in 0..count {
+            let sheet = sheets::random(&mut self.random);
+            self.sheet(sheet)?;
+        }
+        Ok(())
+    }
+
+    fn sheet(&mut self, sheet: Sheet) -> Outcome<()> {
+        let accepted = same_sheet(&sheet).inspect_err(|_| self.call = format!("{sheet:?}"))?;
+        self.tally.sheet(accepted);
+        Ok(())
+    }
+
     fn load(&mut self, file: Vec<u8>) -> Outcome<()> {
         self.call = "load".to_owned();
         self.file = file;
-        let number = self.both.load(&self.file)?;
-        self.tally.verdict(number);
-        self.actor = match number {
-            0 => Actor::under(&self.file),
-            _ => Actor::default(),
+        let verdict = self.both.load(&self.file)?;
+        self.tally.verdict(verdict, &self.file);
+        (self.actor, self.watcher) = match verdict[0] {
+            0 => (Actor::under(&self.file), Watcher::under(&self.file)),
+            _ => Default::default(),
         };
         self.after()
     }
@@ -152,7 +195,7 @@ impl<'a> Case<'a> {
         self.call = "clear".to_owned();
         self.both.clear()?;
         self.tally.clears += 1;
-        self.actor = Actor::default();
+        (self.actor, self.watcher) = Default::default();
         self.after()
     }
 
@@ -174,6 +217,8 @@ impl<'a> Case<'a> {
         self.call = format!("{event:?} with {room} bytes for records");
         let (answer, records) = self.both.step(event, room)?;
         self.tally.event(&answer, &records);
+        self.tally
+            .by_time(&self.watcher.take(&event, &answer, &records));
         if answer.is_ok() {
             self.actor.learn(&event, &records);
         }

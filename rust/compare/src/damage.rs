@@ -1,7 +1,9 @@
 //! Damaged plan files.
 
 use crate::fields::{field, intervals, split};
+use crate::permits::permits;
 use crate::random::Random;
+use crate::times::{Times, TAG};
 
 /// The file with one thing changed.
 pub fn damaged(file: &[u8], random: &mut Random) -> Vec<u8> {
@@ -18,7 +20,7 @@ pub fn noise(random: &mut Random) -> Vec<u8> {
     let low = random.chance(500);
     (0..random.below(most))
         .map(|_| match low {
-            true => random.below(7) as u8,
+            true => random.below(8) as u8,
             false => random.byte(),
         })
         .collect()
@@ -35,7 +37,7 @@ fn bytes_changed(file: &[u8], random: &mut Random) -> Vec<u8> {
         1 => file[at] = random.byte(),
         2 => file[at] ^= 1 << random.below(8),
         3 => file.insert(at, random.byte()),
-        4 => file.extend((0..random.below(5)).map(|_| random.below(7) as u8)),
+        4 => file.extend((0..random.below(5)).map(|_| random.below(8) as u8)),
         _ => lengthened(&mut file, random),
     }
     file
@@ -50,18 +52,19 @@ fn lengthened(file: &mut Vec<u8>, random: &mut Random) {
 
 fn fields_changed(mut fields: Vec<Vec<u8>>, random: &mut Random) -> Vec<Vec<u8>> {
     let at = random.below(fields.len());
-    match random.below(10) {
+    match random.below(14) {
         0 => drop(fields.remove(at)),
         1 => fields.insert(at, fields[at].clone()),
         2 => {
             let other = random.below(fields.len());
             fields.swap(at, other);
         }
-        3 => fields[at][0] = random.pick(&[0, 1, 2, 3, 4, 5, 6, 255]),
+        3 => fields[at][0] = random.pick(&[0, 1, 2, 3, 4, 5, 6, 7, 255]),
         4 => fields[at][2] = random.below(24) as u8,
         5 => fields[at] = resized(&fields[at], random),
         6 => timing_changed(&mut fields, random),
         7 => entry_changed(&mut fields, random),
+        8..12 => times_changed(&mut fields, random),
         _ => number_changed(&mut fields, at, random),
     }
     fields
@@ -93,10 +96,30 @@ fn number_changed(fields: &mut [Vec<u8>], at: usize, random: &mut Random) {
 fn timing_changed(fields: &mut Vec<Vec<u8>>, random: &mut Random) {
     const EDGES: [u32; 7] = [0, 1, 90, 110, 0x7fff_ffff, 0x8000_0000, u32::MAX];
     let changed = intervals(random.pick(&EDGES), random.pick(&EDGES));
-    match fields.last_mut() {
-        Some(last) if random.chance(700) => *last = changed,
+    match fields.iter_mut().find(|field| field[0] == 5) {
+        Some(five) if random.chance(700) => *five = changed,
         _ => fields.push(changed),
     }
+}
+
+/// A field 06 with a number at a bound, or of any length, in place of the plan's own; a second one; one too early; one without intervals
+/// before it.
+fn times_changed(fields: &mut Vec<Vec<u8>>, random: &mut Random) {
+    let permits = permits(fields);
+    let own = Times::at_the_end(fields);
+    let own = own.unwrap_or_else(|| Times::random(&permits, random));
+    let mut changed = own.at_a_bound(random).field();
+    if random.chance(200) {
+        let size = random.pick(&[0, 1, 2, 8, 18, 21, 23, 24, 26]);
+        changed = field(TAG, &vec![random.byte(); size]);
+    }
+    match random.below(8) {
+        0 => fields.push(own.field()),
+        1 => fields.insert(random.below(fields.len() + 1), changed.clone()),
+        2 => fields.retain(|field| field[0] < 5),
+        _ => fields.retain(|field| field[0] != TAG),
+    }
+    fields.push(changed);
 }
 
 /// An entry with a longer span or a target of another.

@@ -1,16 +1,16 @@
 //! Events at random that make sense most of the time, given the plan and what happened so far.
 
 use crate::fields::split;
+use crate::permits::{permits, Permit};
 use crate::random::Random;
+use crate::times::Times;
 use spwd::{Event, Record, Watchdog};
-
-/// What an entry permits: initiator, target, span.
-type Permit = (u8, u8, u8);
 
 #[derive(Default)]
 pub struct Actor {
     has_plan: bool,
     permits: Vec<Permit>,
+    times: Option<Times>,
     last: Option<u8>,
     /// Live transactions: initiator and number.
     live: Vec<(u8, u16)>,
@@ -19,15 +19,11 @@ pub struct Actor {
 impl Actor {
     /// For a box under the plan of this file.
     pub fn under(file: &[u8]) -> Self {
-        let mut permits = Vec::new();
-        for field in split(file).0 {
-            if let [4, _, _, initiator, _, span, targets @ ..] = &field[..] {
-                permits.extend(targets.iter().map(|&target| (*initiator, target, *span)));
-            }
-        }
+        let (fields, _) = split(file);
         Self {
             has_plan: true,
-            permits,
+            permits: permits(&fields),
+            times: Times::at_the_end(&fields),
             ..Self::default()
         }
     }
@@ -59,12 +55,14 @@ impl Actor {
     }
 
     fn request(&self, strange: bool, random: &mut Random) -> Event {
-        let (mut initiator, mut target, span) = match self.permits[..] {
-            [] => (random.byte() % 64, random.byte() % 64, 1),
-            _ => random.pick(&self.permits),
+        let (mut initiator, mut target, most) = match self.permits[..] {
+            [] => (random.byte() % 64, random.byte() % 64, 256),
+            _ => {
+                let permit = random.pick(&self.permits);
+                (permit.initiator, permit.target, self.longest(&permit))
+            }
         };
         let mut kind = random.below(2) as u8;
-        let most = 256 * u16::from(span);
         let mut length = match random.below(8) {
             0 => 0,
             1 => most,
@@ -88,13 +86,21 @@ impl Actor {
         }
     }
 
+    /// The greatest length that fits the entry, 0 if none does.
+    fn longest(&self, permit: &Permit) -> u16 {
+        match &self.times {
+            None => 256 * u16::from(permit.span),
+            Some(times) => times.longest(permit),
+        }
+    }
+
     fn reply(&self, strange: bool, random: &mut Random) -> Event {
         let (mut initiator, mut transaction) = match self.live[..] {
             [] => (random.byte() % 64, 0),
             _ => random.pick(&self.live),
         };
         if self.live.is_empty() && !self.permits.is_empty() {
-            initiator = random.pick(&self.permits).0;
+            initiator = random.pick(&self.permits).initiator;
         }
         if strange {
             initiator = random.byte();

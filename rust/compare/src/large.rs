@@ -1,6 +1,7 @@
 //! Plan files as large as they come.
 
 use crate::fields::{field, intervals, split};
+use crate::times::USUAL;
 
 /// The devices 0 to 63, these of them routers.
 fn devices(routers: std::ops::Range<u8>) -> Vec<u8> {
@@ -59,7 +60,7 @@ fn paths_round_the_ring(row: u8) -> Vec<u8> {
     file
 }
 
-/// All that 13,643 bytes can hold: 64 devices, 64 links, 128 paths of 8 links, 512 entries with 16 targets. Eight initiators stand at
+/// All that a plan can hold but times: 64 devices, 64 links, 128 paths of 8 links, 512 entries with 16 targets. Eight initiators stand at
 /// one end of seven routers in a row and sixteen targets at the other. No such plan is without a clash: with every entry at work,
 /// eight initiators with sixteen targets each would need 128 last links of their own.
 pub fn full() -> Vec<u8> {
@@ -82,6 +83,11 @@ pub fn full() -> Vec<u8> {
     file.extend(entries(|_| (15..31).collect()));
     file.extend(intervals(90, 110));
     file
+}
+
+/// The plan with times in which every path of up to four routers has room for 256 bytes in one slot.
+pub fn timed(file: &[u8]) -> Vec<u8> {
+    [file, &USUAL.field()].concat()
 }
 
 /// The fields that have one of these tags.

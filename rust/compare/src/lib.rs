@@ -3,12 +3,16 @@
 pub mod both;
 pub mod cases;
 mod damage;
+mod decided;
 mod events;
 mod fields;
 pub mod large;
 mod network;
+mod permits;
 mod plans;
 pub mod random;
+mod sheets;
 mod table;
 pub mod tally;
 mod theirs;
+mod times;

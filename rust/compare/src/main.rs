@@ -1,7 +1,8 @@
 //! compare [SEED [FILES [EVENTS]]]: files and histories drawn from the seed, taken by the proved box and by the reference. At least
-//! so many files and events are compared. The first difference ends it: what was done, on what file, both results, and status 1.
-//! The same where a verdict, refusal or record kind was not reached. The last line is "N passed, M failed", N the cases without
-//! a difference: files, histories and one history in which transaction numbers run round.
+//! so many files and events are compared, and then as many time sheets as files. The first difference ends it: what was done, on what
+//! file, both results, and status 1. The same where a verdict, refusal or record kind was not reached, or a side of what the times of a
+//! plan or a sheet decide. The last line is "N passed, M failed", N the cases without a difference: files, histories, one history
+//! in which transaction numbers run round, plans with times at each bound, and all sheets.
 
 use compare::cases::{Case, Failure};
 use compare::random::Random;
@@ -62,27 +63,34 @@ fn main() -> ExitCode {
 /// A difference, with the name of its case.
 type Found = (String, Box<Failure>);
 
-/// Files first, then histories, then the round of all numbers.
+/// Files first, then histories, then the round of all numbers, the bounds of times, and sheets. A case has as its number how many passed
+/// before it.
 fn run(sizes: &Sizes, tally: &mut Tally, passed: &mut u64) -> Result<(), Found> {
-    let mut index = 0;
     while tally.files < sizes.files {
-        let random = Random::of_case(sizes.seed, index);
-        let ended = Case::new(random, tally).file();
-        ended.map_err(|failure| (format!("file case {index}"), failure))?;
-        index += 1;
-        *passed = index;
+        let random = Random::of_case(sizes.seed, *passed);
+        counted("file case", Case::new(random, tally).file(), passed)?;
     }
     while tally.events < sizes.events {
-        let mut random = Random::of_case(sizes.seed, index);
+        let mut random = Random::of_case(sizes.seed, *passed);
         let events = 1 + random.below(4000) as u64;
         let ended = Case::new(random, tally).history(events);
-        ended.map_err(|failure| (format!("history case {index}"), failure))?;
-        index += 1;
-        *passed = index;
+        counted("history case", ended, passed)?;
     }
-    let ended = Case::new(Random::of_case(sizes.seed, index), tally).round();
-    ended.map_err(|failure| (format!("round of numbers, case {index}"), failure))?;
-    *passed = index + 1;
+    let random = Random::of_case(sizes.seed, *passed);
+    let ended = Case::new(random, tally).round();
+    counted("round of numbers, case", ended, passed)?;
+    let random = Random::of_case(sizes.seed, *passed);
+    let ended = Case::new(random, tally).times();
+    counted("bounds of times, case", ended, passed)?;
+    let random = Random::of_case(sizes.seed, *passed);
+    let ended = Case::new(random, tally).sheets(sizes.files);
+    counted("sheets, case", ended, passed)
+}
+
+/// One case more without a difference, or the difference with the name and number of its case.
+fn counted(name: &str, ended: Result<(), Box<Failure>>, passed: &mut u64) -> Result<(), Found> {
+    ended.map_err(|failure| (format!("{name} {passed}"), failure))?;
+    *passed += 1;
     Ok(())
 }
 

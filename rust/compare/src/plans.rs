@@ -1,30 +1,43 @@
 //! Plan files at random.
 
-use crate::fields::{field, intervals};
+use crate::fields::{field, intervals, split};
 use crate::large;
 use crate::network::{Network, Walk};
+use crate::permits::permits;
 use crate::random::Random;
 use crate::table::Table;
+use crate::times::Times;
 
 /// A plan file, most often one that is accepted.
 pub fn plan(random: &mut Random) -> Vec<u8> {
-    match random.below(100) {
+    let file = match random.below(100) {
         0 => large::maximal(),
         1 => large::falling(&large::maximal()),
         2 => large::full(),
         3..10 => crowded(random),
         10..12 => intervals_only(random),
         _ => usual(random),
-    }
+    };
+    with_times(file, random)
 }
 
 /// A plan that is accepted.
 pub fn accepted(random: &mut Random) -> Vec<u8> {
-    match random.below(40) {
+    let file = match random.below(40) {
         0 => large::maximal(),
         1 => each_slot(random),
         _ => with_entries(random, true),
+    };
+    with_times(file, random)
+}
+
+/// Every other plan gets times.
+fn with_times(mut file: Vec<u8>, random: &mut Random) -> Vec<u8> {
+    if random.chance(500) {
+        let permits = permits(&split(&file).0);
+        file.extend(Times::random(&permits, random).field());
     }
+    file
 }
 
 /// One initiator that may start in each slot.
@@ -39,7 +52,7 @@ pub fn each_slot(random: &mut Random) -> Vec<u8> {
 
 /// The same plan with its fields, and the targets of its entries, in another order.
 pub fn reordered(file: &[u8], random: &mut Random) -> Vec<u8> {
-    let (mut fields, rest) = crate::fields::split(file);
+    let (mut fields, rest) = split(file);
     for field in fields
         .iter_mut()
         .filter(|field| field[0] == 4 && field.len() > 6)

@@ -1,7 +1,8 @@
 //! The reference's answers as the proved box gives them, and its verdicts in document 01's numbers.
 
 use crate::both::Answered;
-use reference::{Answer, Event, Unit, Verdict, Watchdog, WRITTEN_OUT};
+use crate::sheets::Sheet;
+use reference::{Answer, Event, Latencies, Unit, Verdict, Watchdog, WRITTEN_OUT};
 use spwd::Ended;
 
 pub fn verdict(verdict: &Verdict) -> [u32; 5] {
@@ -80,6 +81,28 @@ pub fn event(event: spwd::Event) -> Event {
             status,
         },
         spwd::Event::Reading { clock } => Event::Reading { clock },
+    }
+}
+
+/// The terms, or the number of the refusal.
+pub fn sheet(sheet: &Sheet) -> Result<spwd::Sheet, u32> {
+    let Sheet {
+        routers,
+        rate,
+        length,
+        latencies: [a, d, f, g],
+    } = *sheet;
+    let latencies = Latencies { a, d, f, g };
+    match reference::sheet(routers, routers, rate, length, latencies) {
+        Ok(sheet) => Ok(spwd::Sheet {
+            total: sheet.total,
+            b: sheet.b,
+            c: sheet.c,
+            e: sheet.e,
+            h: sheet.h,
+            i: sheet.i,
+        }),
+        Err(fault) => Err(fault as u32),
     }
 }
 

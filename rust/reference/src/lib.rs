@@ -9,11 +9,13 @@ mod few;
 mod load;
 mod plan;
 mod run;
+mod sheet;
 mod verdict;
 mod watchdog;
 mod write_out;
 
 pub use event::{Answer, Event, Refusal};
+pub use sheet::{sheet, Latencies, Sheet};
 pub use verdict::{print_verdict, Fault, Verdict, LINE};
 pub use watchdog::Watchdog;
 
@@ -22,8 +24,8 @@ use run::{Records, Run};
 
 /// The least size of a record buffer that a time-code takes.
 pub const RECORD_BUFFER: usize = 136;
-/// The greatest size of a plan written out.
-pub const WRITTEN_OUT: usize = 13_643;
+/// The greatest size of a plan written out: it is as long as its file.
+pub const WRITTEN_OUT: usize = load::FILE;
 
 /// One box: a plan and the initiators running under it.
 #[derive(Clone, Debug, PartialEq, Eq)]

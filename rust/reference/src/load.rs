@@ -2,10 +2,11 @@
 
 use crate::bits::{bit, holds, Members};
 use crate::few;
-use crate::plan::{Plan, Shape, Walk, INITIATORS, NUMBERS, SLOTS};
+use crate::plan::{Plan, Shape, Times, Walk, Way, INITIATORS, NUMBERS, SLOTS, SPANS};
+use crate::sheet::{in_range, Latencies};
 use crate::verdict::{Fault, Verdict};
 
-const FILE: usize = 16_384;
+pub(crate) const FILE: usize = 16_384;
 const PATHS: u8 = 128;
 
 /// Reads the file into a cleared plan. After a refusal the plan holds what was read so far.
@@ -14,6 +15,7 @@ pub(crate) fn load(plan: &mut Plan, file: &[u8]) -> Verdict {
         plan,
         path_count: 0,
         path_links: [[0; NUMBERS]; INITIATORS],
+        permitted: [[0; SPANS]; INITIATORS],
         followed: [0; INITIATORS],
         slot_links: [0; SLOTS],
         clashing: 0,
@@ -73,7 +75,7 @@ fn each_field(
 fn misplaced(bytes: &[u8]) -> Fault {
     match first_field(bytes) {
         None => Fault::Cut,
-        Some((1..=5, ..)) => Fault::TagOrder,
+        Some((1..=6, ..)) => Fault::TagOrder,
         Some(_) => Fault::UnknownTag,
     }
 }
@@ -83,6 +85,8 @@ struct Judge<'a> {
     path_count: u8,
     /// For each row and target the links of the path.
     path_links: [[u64; NUMBERS]; INITIATORS],
+    /// For each row, at n - 1, the targets of its entries with span n.
+    permitted: [[u64; SPANS]; INITIATORS],
     /// For each row the slots its entries cover after their own.
     followed: [u64; INITIATORS],
     /// For each slot the links that entries covering it use.
@@ -107,6 +111,7 @@ impl Judge<'_> {
         let rest = self.paths(rest)?;
         let rest = self.entries(rest)?;
         let rest = each_field(rest, 5, |content| self.intervals(content))?;
+        let rest = each_field(rest, 6, |content| self.times(content))?;
         if !rest.is_empty() {
             return Err(Refused::at(rest, misplaced(rest)));
         }
@@ -201,6 +206,7 @@ impl Judge<'_> {
         let row = row.unwrap_or_else(|| self.add_initiator(initiator));
         self.plan.reached[row] |= bit(target);
         self.plan.walks[row][usize::from(target % 64)] = trace.walk;
+        self.plan.ways[row][usize::from(target % 64)] = Way::new(0, links.len() as u8 - 1);
         self.path_links[row][usize::from(target % 64)] = trace.links;
         self.path_count += 1;
         Ok(())
@@ -218,6 +224,7 @@ impl Judge<'_> {
         plan.initiators[row..=count].rotate_right(1);
         plan.reached[row..=count].rotate_right(1);
         plan.walks[row..=count].rotate_right(1);
+        plan.ways[row..=count].rotate_right(1);
         self.path_links[row..=count].rotate_right(1);
         plan.initiators[row] = initiator;
         plan.initiator_count += 1;
@@ -274,7 +281,7 @@ impl Judge<'_> {
         plan.slots[row] |= bit(slot);
         plan.targets[index][row] = targets.set;
         plan.shapes[index][row] = Shape { span, count };
-        plan.permitted[row][usize::from(span - 1) % 16] |= targets.set;
+        self.permitted[row][usize::from(span - 1) % SPANS] |= targets.set;
         self.followed[row] |= followed(slot, span);
         self.use_links(slot, targets.links);
         for later in slot + 1..slot + span {
@@ -303,6 +310,29 @@ impl Judge<'_> {
         }
         self.plan.least = least;
         self.plan.greatest = greatest;
+        Ok(())
+    }
+
+    fn times(&mut self, content: &[u8]) -> Result<(), Fault> {
+        if self.plan.times.is_some() {
+            return Err(Fault::TagOrder);
+        }
+        let Some((&rate, times)) = content.split_first_chunk() else {
+            return Err(Fault::Length);
+        };
+        let (&[a, d, f, g, slot_length], []) = times.as_chunks() else {
+            return Err(Fault::Length);
+        };
+        let rate = u16::from_be_bytes(rate);
+        let [a, d, f, g, slot_length] = [a, d, f, g, slot_length].map(u32::from_be_bytes);
+        if !in_range(rate, &[a, d, f, g, slot_length]) {
+            return Err(Fault::Range);
+        }
+        self.plan.times = Some(Times {
+            rate,
+            latencies: Latencies { a, d, f, g },
+            slot_length,
+        });
         Ok(())
     }
 
@@ -364,9 +394,10 @@ impl Judge<'_> {
 
     fn accept(&mut self, file: &[u8]) -> Verdict {
         let plan = &mut *self.plan;
-        for permitted in &mut plan.permitted {
-            for span in (1..permitted.len()).rev() {
-                permitted[span - 1] |= permitted[span];
+        for row in 0..INITIATORS.min(plan.initiator_count.into()) {
+            // The longest span of a target comes last and stays.
+            for (span, &targets) in (1..).zip(&self.permitted[row]) {
+                Members(targets).for_each(|target| plan.permit(row, target, span));
             }
         }
         // Writing out puts the same fields in another order, each as long as it was.

@@ -1,13 +1,13 @@
 //! The plan's tables. An initiator has a row in them; rows rise with the device number.
 
-use crate::bits::holds;
+use crate::sheet::{Latencies, Sheet, BYTE, LENGTH, ROUTERS};
 
 pub(crate) const INITIATORS: usize = 8;
 pub(crate) const NUMBERS: usize = 64;
 pub(crate) const SLOTS: usize = 64;
 pub(crate) const SPANS: usize = 16;
-/// Data bytes that one slot carries.
-pub(crate) const SLOT_BYTES: u16 = 256;
+/// Data bytes that one slot carries where the plan has no times.
+const SLOT_BYTES: u16 = 256;
 
 /// Every number is 0 before any load.
 #[derive(Clone, Debug, PartialEq, Eq)]
@@ -17,6 +17,7 @@ pub(crate) struct Plan {
     pub size: u16,
     pub least: u32,
     pub greatest: u32,
+    pub times: Option<Times>,
     pub devices: u64,
     pub routers: u64,
     pub links: u64,
@@ -36,9 +37,17 @@ pub(crate) struct Plan {
     pub targets: [[u64; INITIATORS]; SLOTS],
     /// And its span with the number of its targets.
     pub shapes: [[Shape; INITIATORS]; SLOTS],
-    /// For each row, at n - 1, the targets of its entries with span n or more.
-    pub permitted: [[u64; SPANS]; INITIATORS],
+    /// For each span, at n - 1, and number of routers, if an entry has a target so far away, how many
+    /// lengths fit, from 0 up.
+    pub lengths: [Lengths; SPANS],
+    /// For each row and target what a request reads.
+    pub ways: [[Way; NUMBERS]; INITIATORS],
 }
+
+/// How many lengths fit, for each number of routers.
+pub(crate) type Lengths = [u16; ROUTERS as usize + 1];
+
+const NO_LENGTHS: Lengths = [0; ROUTERS as usize + 1];
 
 impl Plan {
     pub const fn new() -> Self {
@@ -47,6 +56,7 @@ impl Plan {
             size: 0,
             least: 0,
             greatest: 0,
+            times: None,
             devices: 0,
             routers: 0,
             links: 0,
@@ -59,7 +69,8 @@ impl Plan {
             slots: [0; INITIATORS],
             targets: [[0; INITIATORS]; SLOTS],
             shapes: [[Shape::NONE; INITIATORS]; SLOTS],
-            permitted: [[0; SPANS]; INITIATORS],
+            lengths: [NO_LENGTHS; SPANS],
+            ways: [[Way::NONE; NUMBERS]; INITIATORS],
         }
     }
 
@@ -70,6 +81,7 @@ impl Plan {
             size,
             least,
             greatest,
+            times,
             devices,
             routers,
             links,
@@ -82,12 +94,14 @@ impl Plan {
             slots,
             targets,
             shapes,
-            permitted,
+            lengths,
+            ways,
         } = self;
         *loaded = false;
         *size = 0;
         *least = 0;
         *greatest = 0;
+        *times = None;
         *devices = 0;
         *routers = 0;
         *links = 0;
@@ -100,7 +114,8 @@ impl Plan {
         *slots = [0; INITIATORS];
         *targets = [[0; INITIATORS]; SLOTS];
         *shapes = [[Shape::NONE; INITIATORS]; SLOTS];
-        *permitted = [[0; SPANS]; INITIATORS];
+        *lengths = [NO_LENGTHS; SPANS];
+        *ways = [[Way::NONE; NUMBERS]; INITIATORS];
     }
 
     #[inline(always)]
@@ -118,14 +133,77 @@ impl Plan {
         }
     }
 
-    /// Whether some entry of this row permits the target with room for the length.
+    /// Notes for requests and starts that this row has an entry with this target and span. The spans
+    /// of a row rise from call to call.
+    pub fn permit(&mut self, row: usize, target: u8, span: u8) {
+        let way = &mut self.ways[row][usize::from(target % 64)];
+        let routers = way.routers();
+        let lengths = &mut self.lengths[usize::from(span - 1) % SPANS][usize::from(routers)];
+        if *lengths == 0 {
+            *lengths = match self.times {
+                None => SLOT_BYTES * u16::from(span) + 1,
+                Some(times) => times.lengths(routers, span),
+            };
+        }
+        *way = Way::new(*lengths, routers);
+    }
+
+    /// What an entry of this span permits.
     #[inline(always)]
-    pub fn permits(&self, row: usize, target: u8, length: u16) -> bool {
-        // Length 0 needs an entry too.
-        let spans_less_one = length.saturating_sub(1) / SLOT_BYTES;
-        self.permitted[row]
-            .get(usize::from(spans_less_one))
-            .is_some_and(|&targets| holds(targets, target))
+    pub fn lengths(&self, span: u8) -> &Lengths {
+        &self.lengths[usize::from(span.wrapping_sub(1)) % SPANS]
+    }
+
+    /// What a request of this row to the target reads; nothing fits a number that is no target.
+    #[inline(always)]
+    pub fn way(&self, row: usize, target: u8) -> Way {
+        let way = self.ways[row].get(usize::from(target));
+        way.copied().unwrap_or(Way::NONE)
+    }
+}
+
+/// The numbers of field 06: Mbit/s, and nanoseconds.
+#[derive(Clone, Copy, Debug, PartialEq, Eq)]
+pub(crate) struct Times {
+    pub rate: u16,
+    pub latencies: Latencies,
+    pub slot_length: u32,
+}
+
+impl Times {
+    /// How many lengths, from 0 up, have a time that fits the span on a path with these routers.
+    pub fn lengths(&self, routers: u8, span: u8) -> u16 {
+        let Sheet { total, e, .. } = Sheet::new(routers, routers, self.rate, 0, self.latencies);
+        let given = u32::from(span) * self.slot_length;
+        let left = u64::from(given.saturating_sub(total - e));
+        // A quotient rounded up is at most `left` exactly where its dividend is at most `left` times
+        // its divisor. Data and a CRC are one byte more than a length: as many as there are lengths.
+        let bytes = u64::from(self.rate) * left / u64::from(BYTE);
+        bytes.min(u64::from(LENGTH) + 1) as u16
+    }
+}
+
+/// Of one path: how many lengths, from 0 up, some entry permits, at most 4,097, above three bits for its
+/// routers.
+#[derive(Clone, Copy, Debug, PartialEq, Eq)]
+pub(crate) struct Way(u16);
+
+impl Way {
+    const NONE: Self = Self(0);
+    const BITS: u32 = 3;
+
+    pub fn new(lengths: u16, routers: u8) -> Self {
+        Self(lengths << Self::BITS | u16::from(routers))
+    }
+
+    #[inline(always)]
+    pub fn lengths(self) -> u16 {
+        self.0 >> Self::BITS
+    }
+
+    #[inline(always)]
+    pub fn routers(self) -> u8 {
+        self.0 as u8 & ROUTERS
     }
 }
 

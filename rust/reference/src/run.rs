@@ -2,7 +2,8 @@
 
 use crate::bits::{bit, rows};
 use crate::event::{class, Answer, Refusal};
-use crate::plan::{Plan, Shape, INITIATORS, SLOT_BYTES};
+use crate::plan::{Lengths, Plan, Shape, INITIATORS};
+use crate::sheet::LENGTH;
 
 pub(crate) const EARLY: u8 = 1;
 pub(crate) const LATE: u8 = 2;
@@ -12,7 +13,6 @@ const STARTED: u8 = 5;
 const STILL_LIVE: u8 = 6;
 
 const WAITING: u8 = 8;
-const LENGTH: u16 = 4096;
 const RECORDS: usize = 17;
 const RECORD: usize = 8;
 
@@ -22,16 +22,6 @@ struct Transaction(u64);
 
 impl Transaction {
     const NONE: Self = Self(0);
-
-    #[inline(always)]
-    fn new(initiator: u8, target: u8, number: u16, length: u16) -> Self {
-        Self(
-            u64::from(initiator) << 48
-                | u64::from(target) << 40
-                | u64::from(number) << 16
-                | u64::from(length),
-        )
-    }
 
     #[inline(always)]
     fn target(self) -> u8 {
@@ -47,10 +37,37 @@ impl Transaction {
     fn length(self) -> u16 {
         self.0 as u16
     }
+}
+
+/// A request as the number of its transaction, with the routers of its path in the three bits on top.
+#[derive(Clone, Copy, Debug, PartialEq, Eq)]
+struct Request(u64);
+
+impl Request {
+    const NONE: Self = Self(0);
+    const ROUTERS: u32 = 61;
 
     #[inline(always)]
-    fn fits(self, targets: u64, room: u16) -> bool {
-        targets & bit(self.target()) != 0 && self.length() <= room
+    fn new(initiator: u8, target: u8, routers: u8, number: u16, length: u16) -> Self {
+        Self(
+            u64::from(routers) << Self::ROUTERS
+                | u64::from(initiator) << 48
+                | u64::from(target) << 40
+                | u64::from(number) << 16
+                | u64::from(length),
+        )
+    }
+
+    #[inline(always)]
+    fn transaction(self) -> Transaction {
+        Transaction(self.0 & !(u64::MAX << Self::ROUTERS))
+    }
+
+    #[inline(always)]
+    fn fits(self, targets: u64, lengths: &Lengths) -> bool {
+        let transaction = self.transaction();
+        let fitting = lengths[(self.0 >> Self::ROUTERS) as usize];
+        targets & bit(transaction.target()) != 0 && transaction.length() < fitting
     }
 }
 
@@ -98,7 +115,7 @@ impl<'a> Records<'a> {
 /// The requests of one initiator in a ring, the oldest at `first`.
 #[derive(Clone, Copy, Debug, PartialEq, Eq)]
 struct Line {
-    waiting: [Transaction; WAITING as usize],
+    waiting: [Request; WAITING as usize],
     first: u8,
     count: u8,
     /// The number of the next transaction.
@@ -107,7 +124,7 @@ struct Line {
 
 impl Line {
     const EMPTY: Self = Self {
-        waiting: [Transaction::NONE; WAITING as usize],
+        waiting: [Request::NONE; WAITING as usize],
         first: 0,
         count: 0,
         next: 0,
@@ -115,47 +132,47 @@ impl Line {
 
     /// The place that is `index` places behind the oldest request.
     #[inline(always)]
-    fn place(&mut self, index: u8) -> &mut Transaction {
+    fn place(&mut self, index: u8) -> &mut Request {
         &mut self.waiting[usize::from((self.first + index) % WAITING)]
     }
 
     /// Adds a request and gives its transaction number; none if the line is full.
     #[inline(always)]
-    fn join(&mut self, initiator: u8, target: u8, length: u16) -> Option<u16> {
+    fn join(&mut self, initiator: u8, target: u8, routers: u8, length: u16) -> Option<u16> {
         if self.count == WAITING {
             return None;
         }
         let number = self.next;
-        *self.place(self.count) = Transaction::new(initiator, target, number, length);
+        *self.place(self.count) = Request::new(initiator, target, routers, number, length);
         self.count += 1;
         self.next = number.wrapping_add(1);
         Some(number)
     }
 
-    /// Takes out the oldest request that an entry with these targets and this room permits.
+    /// Takes out the oldest request that an entry with these targets and lengths permits.
     #[inline(always)]
-    fn take(&mut self, targets: u64, room: u16) -> Option<Transaction> {
+    fn take(&mut self, targets: u64, lengths: &Lengths) -> Option<Transaction> {
         if self.count == 0 {
             return None;
         }
         let oldest = *self.place(0);
-        if !oldest.fits(targets, room) {
-            return self.take_later(targets, room);
+        if !oldest.fits(targets, lengths) {
+            return self.take_later(targets, lengths);
         }
         self.drop_first();
-        Some(oldest)
+        Some(oldest.transaction())
     }
 
     /// The same where the oldest of all is not permitted.
     #[inline(never)]
-    fn take_later(&mut self, targets: u64, room: u16) -> Option<Transaction> {
-        let index = (1..self.count).find(|&index| self.place(index).fits(targets, room))?;
+    fn take_later(&mut self, targets: u64, lengths: &Lengths) -> Option<Transaction> {
+        let index = (1..self.count).find(|&index| self.place(index).fits(targets, lengths))?;
         let found = *self.place(index);
         for older in (0..index).rev() {
             *self.place(older + 1) = *self.place(older);
         }
         self.drop_first();
-        Some(found)
+        Some(found.transaction())
     }
 
     #[inline(always)]
@@ -205,11 +222,12 @@ impl Run {
         if length > LENGTH {
             return Err(Refusal::Length);
         }
-        if !plan.permits(row, target, length) {
+        let way = plan.way(row, target);
+        if length >= way.lengths() {
             return Err(Refusal::NotPermitted);
         }
         let number = self.lines[row]
-            .join(initiator, target, length)
+            .join(initiator, target, way.routers(), length)
             .ok_or(Refusal::LineFull)?;
         Ok(Answer::Taken { number })
     }
@@ -287,7 +305,7 @@ impl Run {
             if span != 0 {
                 if live & row != 0 {
                     records.write(STILL_LIVE, *current);
-                } else if let Some(started) = line.take(targets, u16::from(span) * SLOT_BYTES) {
+                } else if let Some(started) = line.take(targets, plan.lengths(span)) {
                     records.write(STARTED, started);
                     live |= row;
                     *current = started;

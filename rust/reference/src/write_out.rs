@@ -2,7 +2,8 @@
 
 use crate::bits::{holds, Members};
 use crate::few;
-use crate::plan::{Plan, Shape};
+use crate::plan::{Plan, Shape, Times};
+use crate::sheet::Latencies;
 use core::mem::take;
 
 /// Fills `out`, which has exactly the plan's size.
@@ -26,6 +27,9 @@ pub(crate) fn write_out(plan: &Plan, out: &mut [u8]) {
     writer.bytes([5, 0, 8]);
     writer.bytes(plan.least.to_be_bytes());
     writer.bytes(plan.greatest.to_be_bytes());
+    if let Some(times) = plan.times {
+        write_times(times, &mut writer);
+    }
 }
 
 #[inline(always)]
@@ -49,6 +53,15 @@ fn write_entries(plan: &Plan, row: usize, initiator: u8, writer: &mut Writer) {
             targets &= targets.wrapping_sub(1);
             target as u8
         });
+    }
+}
+
+fn write_times(times: Times, writer: &mut Writer) {
+    let Latencies { a, d, f, g } = times.latencies;
+    writer.bytes([6, 0, 22]);
+    writer.bytes(times.rate.to_be_bytes());
+    for time in [a, d, f, g, times.slot_length] {
+        writer.bytes(time.to_be_bytes());
     }
 }
 

@@ -2,9 +2,12 @@
 
 mod common;
 
-use common::model::{judged, Model, ModelPlan};
-use common::{device, entry, field, intervals, line, link, path, split, Driver, Random};
-use reference::{Event, Unit, Watchdog};
+use common::model::{judged, time, Model, ModelPlan};
+use common::{
+    device, entry, field, intervals, line, link, path, row_plan, split, times, Driver, Random,
+};
+use reference::{Answer, Event, Refusal, Unit, Watchdog};
+use std::collections::BTreeSet;
 
 /// More of them with the environment variable `CASES`, from another start with `START`.
 fn cases() -> u64 {
@@ -21,6 +24,7 @@ fn box_and_model_agree() {
     let mut driver = Driver::cleared();
     let mut model = Model::new();
     let mut seen = [0; 15];
+    let mut by_time = 0;
     for _ in 0..cases() {
         let mut file = plan(&mut random);
         while random.chance(45) {
@@ -33,9 +37,10 @@ fn box_and_model_agree() {
         }
         let events = if number == 0 { 300 } else { 3 };
         for _ in 0..events {
-            step(&mut driver, &mut model, &mut random);
+            by_time += u64::from(step(&mut driver, &mut model, &mut random));
         }
     }
+    assert!(by_time > 0, "no request was refused for its time");
     let missing: Vec<usize> = (0..15).filter(|&number| seen[number] == 0).collect();
     assert!(missing.is_empty(), "no verdict {missing:?} in {seen:?}");
 }
@@ -64,7 +69,8 @@ fn check_written_out(driver: &Driver, model: &Model) {
     assert_eq!(Driver::new(&out).unit, driver.unit);
 }
 
-fn step(driver: &mut Driver, model: &mut Model, random: &mut Random) {
+/// Hands both an event, and says whether it was a request that is refused for its time alone.
+fn step(driver: &mut Driver, model: &mut Model, random: &mut Random) -> bool {
     if random.chance(2) {
         let five = strange_watchdog(random);
         (driver.watchdog, model.watchdog) = (five, five);
@@ -81,6 +87,23 @@ fn step(driver: &mut Driver, model: &mut Model, random: &mut Random) {
     bytes.resize(buffer, 0xa5);
     assert_eq!(records, bytes, "{event:?}");
     assert_eq!(driver.watchdog, model.watchdog);
+    answer == Answer::Refused(Refusal::NotPermitted) && for_its_time(model, event)
+}
+
+fn for_its_time(model: &Model, event: Event) -> bool {
+    let (
+        Some(plan),
+        Event::Request {
+            initiator, target, ..
+        },
+    ) = (model.plan(), event)
+    else {
+        return false;
+    };
+    let aimed = |((other, _), (_, targets)): (&(u8, u8), &(u8, BTreeSet<u8>))| {
+        *other == initiator && targets.contains(&target)
+    };
+    plan.times.is_some() && plan.entries.iter().any(aimed)
 }
 
 fn strange_watchdog(random: &mut Random) -> Watchdog {
@@ -133,25 +156,25 @@ fn clock(model: &Model, random: &mut Random) -> u32 {
 }
 
 fn request(model: &Model, strange: bool, random: &mut Random) -> Event {
-    let mut keys: Vec<(u8, u8)> = Vec::new();
-    let mut spans = vec![1];
+    let mut keys: Vec<(u8, u8, u8)> = Vec::new();
     if let Some(plan) = model.plan() {
         for (&(initiator, _), (span, targets)) in &plan.entries {
-            keys.extend(targets.iter().map(|&target| (initiator, target)));
-            spans.push(*span);
+            keys.extend(targets.iter().map(|&target| (initiator, target, *span)));
         }
     }
     let (mut initiator, mut target) = (random.next() as u8, random.next() as u8);
+    let mut most = 256;
     if !strange && !keys.is_empty() {
-        (initiator, target) = random.pick(&keys);
+        let span;
+        (initiator, target, span) = random.pick(&keys);
+        most = longest(model.plan().unwrap(), initiator, span, target);
     }
-    let most = 256 * u16::from(random.pick(&spans));
     let length = match random.below(6) {
         0 => 0,
         1 => most,
         2 => most + 1,
         3 if strange => random.next() as u16,
-        _ => random.below(usize::from(most)) as u16,
+        _ => random.below(usize::from(most) + 1) as u16,
     };
     let kind = if strange {
         random.below(4)
@@ -164,6 +187,19 @@ fn request(model: &Model, strange: bool, random: &mut Random) -> Event {
         kind,
         length,
     }
+}
+
+/// The greatest length that fits, 0 if none does.
+fn longest(plan: &ModelPlan, initiator: u8, span: u8, target: u8) -> u16 {
+    let (mut fits, mut over) = (0, 4_097);
+    while over - fits > 1 {
+        let middle = (fits + over) / 2;
+        match plan.fits(initiator, span, target, middle) {
+            true => fits = middle,
+            false => over = middle,
+        }
+    }
+    fits
 }
 
 fn reply(model: &Model, strange: bool, random: &mut Random) -> Event {
@@ -229,6 +265,9 @@ fn plan(random: &mut Random) -> Vec<u8> {
     if !pairs.is_empty() {
         add_entries(&mut fields, &pairs, careful, random);
     }
+    if random.chance(50) {
+        fields.push(six(random));
+    }
     random.shuffle(&mut fields);
     fields.sort_by_key(|field| field[0]);
     fields.concat()
@@ -242,6 +281,31 @@ fn five(random: &mut Random) -> Vec<u8> {
         least = random.pick(&[0, 1, greatest / 2, greatest]);
     }
     intervals(least, greatest)
+}
+
+/// Times, half of them with a slot length that some time just fits or just does not.
+fn six(random: &mut Random) -> Vec<u8> {
+    let top = 1_000_000;
+    let rate = match random.below(4) {
+        0 => random.pick(&[2, 3, 399, 400]),
+        _ => 2 + random.below(399) as u16,
+    };
+    let four: [u32; 4] = std::array::from_fn(|_| match random.below(8) {
+        0 => random.pick(&[0, 1, top - 1, top]),
+        _ => random.below(20_000) as u32,
+    });
+    let slot_length = match random.below(4) {
+        0 => random.pick(&[0, 1, top - 1, top]),
+        1 => random.below(top as usize + 1) as u32,
+        _ => {
+            let (routers, length) = (random.below(8) as u128, random.below(4_097) as u128);
+            let time = time(routers, rate.into(), length, four.map(u128::from)) as u32;
+            let enough = time.div_ceil(1 + random.below(3) as u32);
+            (enough - random.below(2) as u32).min(top)
+        }
+    };
+    let [a, d, f, g] = four;
+    times(rate, [a, d, f, g, slot_length])
 }
 
 /// Links that join every device to one before it, and some more.
@@ -359,7 +423,12 @@ fn spoilt_fields(file: &[u8], random: &mut Random) -> Vec<u8> {
         return file.to_vec();
     }
     let mut fields = split(file);
-    let at = random.below(fields.len());
+    let last = fields.len() - 1;
+    // Intervals and times stand alone at the end among many others.
+    let at = match random.below(4) {
+        0 => last,
+        _ => random.below(last + 1),
+    };
     match random.below(6) {
         0 => {
             fields.remove(at);
@@ -386,6 +455,37 @@ fn spoilt_fields(file: &[u8], random: &mut Random) -> Vec<u8> {
         }
     }
     fields.concat()
+}
+
+#[test]
+fn lengths_that_fit_as_the_model_has_them() {
+    let mut random = Random(number("START").unwrap_or(0xf175));
+    for _ in 0..cases() {
+        let span = 1 + random.below(16) as u8;
+        let all: Vec<u8> = (1..9).collect();
+        let file = row_plan(&[entry(0, 0, span, &all)], &six(&mut random));
+        let plan = ModelPlan::judge(&file).unwrap();
+        let mut driver = Driver::new(&file);
+        for target in all {
+            let most = longest(&plan, 0, span, target);
+            for length in [0, most.saturating_sub(1), most, most + 1] {
+                let request = Event::Request {
+                    initiator: 0,
+                    target,
+                    kind: 0,
+                    length,
+                };
+                let fits = plan.fits(0, span, target, length);
+                let before = driver.clone();
+                let answer = driver.step(request);
+                assert_eq!(answer.number() == 0, fits, "{span} {target} {length}");
+                // What is taken starts where the entry stands.
+                let started = driver.time_code(0, 0).len();
+                assert_eq!(started == 1, fits);
+                driver = before;
+            }
+        }
+    }
 }
 
 #[test]

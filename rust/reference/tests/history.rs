@@ -2,7 +2,9 @@
 
 mod common;
 
-use common::{device, entry, first_plan, intervals, link, path, plan_a, Driver};
+use common::{
+    device, entry, first_plan, intervals, link, path, plan_a, row_plan, usual_times, Driver,
+};
 use reference::{Answer, Watchdog};
 
 fn record(kind: u8, who: u8, target: u8, value: u8, number: u16, length: u16) -> [u8; 8] {
@@ -198,13 +200,40 @@ fn sequence() {
     }
 }
 
+/// The slots and numbers of all starts in five epochs, after these requests of one initiator for
+/// targets and lengths, which must be taken.
+fn starts(file: &[u8], initiator: u8, asked: &[(u8, u16)]) -> Vec<(u8, u16)> {
+    let mut driver = Driver::new(file);
+    for (number, &(target, length)) in (0..).zip(asked) {
+        let answer = driver.request(initiator, target, 0, length);
+        assert_eq!(answer, Answer::Taken { number });
+    }
+    let mut clock = 0;
+    let mut order = Vec::new();
+    for _ in 0..5 {
+        for value in 0..64 {
+            for [kind, who, target, at, a, b, c, d] in driver.time_code(value, clock) {
+                if kind == 5 {
+                    let number = u16::from_be_bytes([a, b]);
+                    assert_eq!((who, at), (initiator, value));
+                    let length = u16::from_be_bytes([c, d]);
+                    assert_eq!(asked[usize::from(number)], (target, length));
+                    order.push((value, number));
+                }
+            }
+            clock += 100;
+        }
+    }
+    order
+}
+
 #[test]
 fn the_oldest_that_the_entry_permits() {
-    let mut driver = Driver::new(&plan_a(&[
+    let file = plan_a(&[
         entry(1, 0, 1, &[3]),
         entry(1, 1, 2, &[3, 4]),
         entry(1, 3, 1, &[4]),
-    ]));
+    ]);
     let asked = [
         (4, 300),
         (3, 257),
@@ -215,28 +244,6 @@ fn the_oldest_that_the_entry_permits() {
         (3, 0),
         (4, 512),
     ];
-    for (number, (target, length)) in (0..).zip(asked) {
-        assert_eq!(
-            driver.request(1, target, 0, length),
-            Answer::Taken { number }
-        );
-    }
-    let mut clock = 0;
-    let mut order = Vec::new();
-    for _ in 0..5 {
-        for value in 0..64 {
-            for [kind, who, target, at, a, b, c, d] in driver.time_code(value, clock) {
-                if kind == 5 {
-                    let number = u16::from_be_bytes([a, b]);
-                    assert_eq!((who, at), (1, value));
-                    let length = u16::from_be_bytes([c, d]);
-                    assert_eq!(asked[usize::from(number)], (target, length));
-                    order.push((value, number));
-                }
-            }
-            clock += 100;
-        }
-    }
     let expected = [
         (0, 3),
         (1, 0),
@@ -247,7 +254,39 @@ fn the_oldest_that_the_entry_permits() {
         (1, 5),
         (1, 7),
     ];
-    assert_eq!(order, expected);
+    assert_eq!(starts(&file, 1, &asked), expected);
+}
+
+#[test]
+fn the_oldest_that_fits_in_time() {
+    let entries = [
+        entry(0, 0, 1, &[1, 7]),
+        entry(0, 1, 2, &[1, 7]),
+        entry(0, 3, 1, &[7]),
+    ];
+    // One slot has room for 160 bytes behind one router and for none, but no byte more, behind seven;
+    // two slots for 775 and for 615.
+    let file = row_plan(&entries, &usual_times(30_750));
+    let asked = [
+        (7, 1),
+        (1, 161),
+        (7, 615),
+        (1, 160),
+        (7, 0),
+        (1, 775),
+        (1, 0),
+    ];
+    let expected = [(0, 3), (1, 0), (3, 4), (0, 6), (1, 1), (1, 2), (1, 5)];
+    assert_eq!(starts(&file, 0, &asked), expected);
+}
+
+#[test]
+fn nothing_starts_where_not_even_length_0_fits() {
+    // Only two slots are enough for seven routers.
+    let entries = [entry(0, 0, 1, &[1, 7]), entry(0, 1, 2, &[7])];
+    let file = row_plan(&entries, &usual_times(30_749));
+    let expected = [(0, 1), (1, 0), (1, 2)];
+    assert_eq!(starts(&file, 0, &[(7, 0), (1, 0), (7, 0)]), expected);
 }
 
 #[test]

@@ -2,7 +2,7 @@
 
 mod common;
 
-use common::{entry, first_plan, intervals, plan_a, Driver};
+use common::{entry, first_plan, intervals, plan_a, row_plan, usual_times, Driver};
 use std::io::{BufRead, BufReader, Write};
 use std::process::{Command, Stdio};
 
@@ -49,12 +49,14 @@ fn replay(script: &[(&str, &str)]) {
 fn verdict_program() {
     assert_eq!(run(VERDICT, &first_plan()), "ACCEPTED 6 5 4 2\n");
     assert_eq!(run(VERDICT, b""), "REFUSED 12 0\n");
-    assert_eq!(run(VERDICT, &[6, 0, 0]), "REFUSED 3 0\n");
-    assert_eq!(run(VERDICT, &[6; 16_384]), "REFUSED 3 0\n");
+    assert_eq!(run(VERDICT, &[6, 0, 0]), "REFUSED 5 0\n");
+    assert_eq!(run(VERDICT, &[6; 16_384]), "REFUSED 5 0\n");
     assert_eq!(run(VERDICT, &[6; 16_385]), "REFUSED 1 0\n");
     assert_eq!(run(VERDICT, &[6; 200_000]), "REFUSED 1 0\n");
     let clash = plan_a(&[entry(1, 63, 2, &[3]), entry(2, 0, 1, &[3])]);
     assert_eq!(run(VERDICT, &clash), "REFUSED 14 0 1 2 2\n");
+    let timed = [first_plan(), usual_times(0)].concat();
+    assert_eq!(run(VERDICT, &timed), "ACCEPTED 6 5 4 2\n");
 }
 
 #[test]
@@ -116,6 +118,55 @@ fn every_command() {
 }
 
 #[test]
+fn sheets() {
+    replay(&[
+        ("sheet 4 200 256 5000 5000 5000 5000", "0 39450"),
+        ("sheet 0 2 0 0 0 0 0", "0 125000"),
+        (
+            "sheet 7 2 4096 1000000 1000000 1000000 1000000",
+            "0 24723400",
+        ),
+        ("sheet 7 400 4096 1 20 300 4000", "0 116296"),
+        ("sheet 8 200 256 5000 5000 5000 5000", "6 0"),
+        ("sheet 255 200 256 5000 5000 5000 5000", "6 0"),
+        ("sheet 4 1 256 5000 5000 5000 5000", "6 0"),
+        ("sheet 4 0 256 5000 5000 5000 5000", "6 0"),
+        ("sheet 4 401 256 5000 5000 5000 5000", "6 0"),
+        ("sheet 4 65535 256 5000 5000 5000 5000", "6 0"),
+        ("sheet 4 200 4097 5000 5000 5000 5000", "6 0"),
+        ("sheet 4 200 65535 5000 5000 5000 5000", "6 0"),
+        ("sheet 4 200 256 1000001 5000 5000 5000", "6 0"),
+        ("sheet 4 200 256 5000 1000001 5000 5000", "6 0"),
+        ("sheet 4 200 256 5000 5000 1000001 5000", "6 0"),
+        ("sheet 4 200 256 5000 5000 5000 1000001", "6 0"),
+        ("sheet 4 200 256 5000 5000 5000 4294967295", "6 0"),
+    ]);
+}
+
+#[test]
+fn a_plan_with_times() {
+    let plan = |slot_length| row_plan(&[entry(0, 0, 1, &[4])], &usual_times(slot_length));
+    let load = |slot_length| format!("load {}", hex(&plan(slot_length)));
+    let size = plan(39_450).len();
+    let canonical = Driver::new(&plan(39_450)).written_out();
+    let out = format!("0 {size} {}", hex(&canonical));
+    replay(&[
+        (&load(39_450), "ACCEPTED 16 15 8 1"),
+        ("req 0 4 0 256", "0 0"),
+        ("req 0 4 0 257", "25 0"),
+        ("tc 0 0 136", "0 1 0500040000000100"),
+        ("out 32768", &out),
+        (&load(39_449), "ACCEPTED 16 15 8 1"),
+        ("req 0 4 0 256", "25 0"),
+        ("req 0 4 0 255", "0 0"),
+        (&load(26_649), "ACCEPTED 16 15 8 1"),
+        ("req 0 4 0 0", "25 0"),
+        (&load(1_000_001), "REFUSED 6 264"),
+        ("sheet 4 200 256 5000 5000 5000 5000", "0 39450"),
+    ]);
+}
+
+#[test]
 fn what_is_no_command() {
     let lines = [
         "laod -",
@@ -157,6 +208,19 @@ fn what_is_no_command() {
         "setwd 1 2 3 4",
         "setwd 1 2 3 4 4294967296",
         "setwd 1 2 3 4 5 6",
+        "sheet",
+        "sheet 4 200 256 5000 5000 5000",
+        "sheet 4 200 256 5000 5000 5000 5000 5000",
+        "sheet 4 200 256 5000 5000 5000 ",
+        "sheet 256 200 256 5000 5000 5000 5000",
+        "sheet 4 65536 256 5000 5000 5000 5000",
+        "sheet 4 200 65536 5000 5000 5000 5000",
+        "sheet 4 200 256 4294967296 5000 5000 5000",
+        "sheet 4 200 256 5000 4294967296 5000 5000",
+        "sheet 4 200 256 5000 5000 4294967296 5000",
+        "sheet 4 200 256 5000 5000 5000 4294967296",
+        "sheet 4 200 256 5000 5000 5000 -1",
+        "sheet2 4 4 200 256 5000 5000 5000 5000",
         "clk 1\r",
         "clk\t1",
         " ",
@@ -189,7 +253,7 @@ fn long_lines_and_no_last_newline() {
     let more = format!("load {}", hex(&[6; 16_401]));
     let allowed = format!("load {}", hex(&[6; 16_384]));
     let script = [&most[..], &more, &allowed, "\n# none", "clear"].join("\n");
-    let printed = "REFUSED 1 0\nERROR line 2\nREFUSED 3 0\nCLEARED\n";
+    let printed = "REFUSED 1 0\nERROR line 2\nREFUSED 5 0\nCLEARED\n";
     assert_eq!(run(REPLAY, script.as_bytes()), printed);
     assert_eq!(run(REPLAY, b""), "");
 }

@@ -2,7 +2,8 @@
 
 mod common;
 
-use common::{entry, first_plan, plan_a, Driver};
+use common::model::time;
+use common::{entry, first_plan, plan_a, row_plan, target_behind, times, usual_times, Driver};
 use reference::{Answer, Event, Refusal, Unit, Watchdog};
 
 fn time_code(byte: u8) -> Event {
@@ -136,6 +137,89 @@ fn refusal_25_not_permitted() {
         }
         driver.refuses(request(2, 4, 0, 0), 0, Refusal::NotPermitted);
     }
+}
+
+/// Initiator 0 with one entry, for the target behind so many routers, and these times.
+fn timed(routers: u8, span: u8, rate: u16, slot_length: u32) -> Driver {
+    let entries = [entry(0, 0, span, &[target_behind(routers)])];
+    let times = times(rate, [5_000, 600, 70, 0, slot_length]);
+    Driver::new(&row_plan(&entries, &times))
+}
+
+#[test]
+fn refusal_25_by_one_nanosecond() {
+    let mut met = 0;
+    for routers in 0..8 {
+        for rate in [2, 3, 7, 50, 200, 399, 400] {
+            for length in [0, 1, 2, 255, 256, 257, 4_095, 4_096] {
+                let four = [5_000, 600, 70, 0];
+                let time = time(routers.into(), rate.into(), length.into(), four) as u32;
+                for span in [1, 2, 3, 15, 16] {
+                    let enough = time.div_ceil(span);
+                    if enough > 1_000_000 {
+                        continue;
+                    }
+                    let asked = request(0, target_behind(routers), 0, length);
+                    let mut driver = timed(routers, span as u8, rate, enough);
+                    assert_eq!(driver.step(asked), Answer::Taken { number: 0 });
+                    let mut driver = timed(routers, span as u8, rate, enough - 1);
+                    driver.refuses(asked, 0, Refusal::NotPermitted);
+                    met += 1;
+                }
+            }
+        }
+    }
+    assert_eq!(met, 2_031);
+}
+
+#[test]
+fn times_take_the_place_of_256_bytes() {
+    // More than 256 bytes a slot, up to 4,096, and less.
+    for (slot_length, most) in [(1_000_000, 4_096), (34_050, 256), (21_300, 1), (21_250, 0)] {
+        let entries = [entry(0, 0, 1, &[8])];
+        let file = row_plan(&entries, &usual_times(slot_length));
+        let mut driver = Driver::new(&file);
+        assert_eq!(driver.request(0, 8, 0, most), Answer::Taken { number: 0 });
+        let refusal = match most {
+            4_096 => Refusal::Length,
+            _ => Refusal::NotPermitted,
+        };
+        driver.refuses(request(0, 8, 0, most + 1), 0, refusal);
+    }
+}
+
+#[test]
+fn refusal_25_of_every_length() {
+    let entries = [entry(0, 0, 16, &[1, 2, 3, 4, 5, 6, 7, 8])];
+    for slot_length in [0, 1, 1_000] {
+        let mut driver = Driver::new(&row_plan(&entries, &usual_times(slot_length)));
+        for target in 1..=8 {
+            for length in [0, 1, 256, 4_096] {
+                driver.refuses(request(0, target, 0, length), 0, Refusal::NotPermitted);
+            }
+        }
+        driver.refuses(request(0, 1, 0, 4_097), 0, Refusal::Length);
+    }
+}
+
+#[test]
+fn refusal_25_reads_the_span_with_its_target() {
+    // Three slots for target 1 alone, one for target 2.
+    let entries = [
+        entry(0, 0, 3, &[1]),
+        entry(0, 10, 1, &[2]),
+        entry(0, 20, 1, &[1, 2]),
+    ];
+    let mut driver = Driver::new(&row_plan(&entries, &usual_times(25_000)));
+    // What else there is behind one router takes 22,700: 52,300 are left for data and CRC.
+    assert_eq!(driver.request(0, 1, 0, 1_045), Answer::Taken { number: 0 });
+    driver.refuses(request(0, 1, 0, 1_046), 0, Refusal::NotPermitted);
+    // Behind two it takes 24,000.
+    assert_eq!(driver.request(0, 2, 0, 19), Answer::Taken { number: 1 });
+    driver.refuses(request(0, 2, 0, 20), 0, Refusal::NotPermitted);
+    driver.refuses(request(0, 3, 0, 0), 0, Refusal::NotPermitted);
+    driver.refuses(request(0, 64, 0, 0), 0, Refusal::NotPermitted);
+    driver.refuses(request(0, 255, 0, 0), 0, Refusal::NotPermitted);
 }
 
 #[test]

@@ -2,7 +2,7 @@
 
 mod common;
 
-use common::{entry, first_plan, intervals, line, plan_a, verdict, Driver};
+use common::{entry, first_plan, intervals, line, plan_a, row_plan, usual_times, verdict, Driver};
 use reference::{Answer, Refusal, Unit, Watchdog};
 
 #[test]
@@ -33,7 +33,7 @@ fn printed_verdicts() {
             "ACCEPTED 0 0 0 0",
         ),
         (twice, "REFUSED 4 11"),
-        (vec![6, 0, 0], "REFUSED 3 0"),
+        (vec![6, 0, 0], "REFUSED 5 0"),
         (plan_a(&[]), "ACCEPTED 6 5 4 0"),
     ];
     for (file, expected) in samples {
@@ -58,6 +58,25 @@ fn lengths_on_the_first_plan() {
         refused(Refusal::NotPermitted)
     );
     assert_eq!(driver.request(1, 3, 0, 4097), refused(Refusal::Length));
+}
+
+/// The greatest length taken over four routers in one slot of this length, and then one more refused.
+fn most_over_four_routers(slot_length: u32) -> Option<u16> {
+    let file = row_plan(&[entry(0, 0, 1, &[4])], &usual_times(slot_length));
+    let taken = |length: &u16| Driver::new(&file).request(0, 4, 0, *length).number() == 0;
+    let most = (0..=4_096).take_while(taken).last();
+    let more = most.map_or(0, |most| most + 1);
+    let answer = Driver::new(&file).request(0, 4, 0, more);
+    assert_eq!(answer, Answer::Refused(Refusal::NotPermitted));
+    most
+}
+
+#[test]
+fn lengths_by_the_time_sheet() {
+    assert_eq!(most_over_four_routers(39_450), Some(256));
+    assert_eq!(most_over_four_routers(39_449), Some(255));
+    assert_eq!(most_over_four_routers(26_650), Some(0));
+    assert_eq!(most_over_four_routers(26_649), None);
 }
 
 #[test]

@@ -3,7 +3,8 @@
 mod common;
 
 use common::{
-    device, entry, field, first_plan, intervals, link, path, plan_a, plan_a_network, split, verdict,
+    device, entry, field, first_plan, intervals, link, path, plan_a, plan_a_network, row_plan,
+    split, times, usual_times, verdict,
 };
 
 /// Devices 1 and 2 are nodes, 10 a router.
@@ -58,18 +59,29 @@ fn verdict_2_cut() {
         let cut = [&file, rest].concat();
         assert_eq!(verdict(&cut), format!("REFUSED 2 {}", file.len()));
     }
+    let times = usual_times(39_450);
+    for size in 1..times.len() {
+        let cut = [&file, &times[..size]].concat();
+        assert_eq!(verdict(&cut), format!("REFUSED 2 {}", file.len()));
+    }
     assert_eq!(verdict(&[5]), "REFUSED 2 0");
     assert_eq!(verdict(&[7, 0, 1]), "REFUSED 2 0");
 }
 
 #[test]
 fn verdict_3_unknown_tag() {
-    for tag in [0, 6, 7, 255] {
+    for tag in [0, 7, 8, 255] {
         assert_fault(3, &[], &field(tag, &[]));
         assert_fault(3, &paths(), &field(tag, &[1, 2, 3]));
         let file = [first_plan(), field(tag, &[])].concat();
         assert_eq!(verdict(&file), format!("REFUSED 3 {}", first_plan().len()));
+        let timed = [first_plan(), usual_times(0)].concat();
+        let file = [&timed[..], &field(tag, &[])].concat();
+        assert_eq!(verdict(&file), format!("REFUSED 3 {}", timed.len()));
     }
+    // Tag 06 is spared: a length that it must not have, and one that it must.
+    assert_eq!(verdict(&[6, 0, 0]), "REFUSED 5 0");
+    assert_eq!(verdict(&usual_times(0)), "REFUSED 12 25");
 }
 
 #[test]
@@ -95,10 +107,46 @@ fn verdict_4_tag_order() {
 }
 
 #[test]
+fn verdict_4_times() {
+    let timed = [plan_a(&[]), usual_times(39_450)].concat();
+    assert_eq!(verdict(&timed), "ACCEPTED 6 5 4 0");
+    // A second one, whatever it holds, and every tag below.
+    for late in [
+        usual_times(39_450),
+        field(6, &[]),
+        field(6, &[0; 21]),
+        field(6, &[0; 23]),
+        times(1, [0; 5]),
+        times(400, [1_000_001; 5]),
+        intervals(90, 110),
+        field(5, &[]),
+        entry(1, 0, 1, &[3]),
+        path(1, 3, &[0, 2]),
+        link(9, 1, 2),
+        device(9, 0),
+    ] {
+        let file = [&timed[..], &late].concat();
+        let expected = format!("REFUSED 4 {}", timed.len());
+        assert_eq!(verdict(&file), expected, "{late:?}");
+    }
+    // Before the intervals these come too late.
+    assert_fault(4, &usual_times(39_450), &intervals(90, 110));
+    let early = [plan_a_network().concat(), usual_times(39_450)].concat();
+    assert_fault(4, &early, &intervals(90, 110));
+    assert_fault(4, &early, &usual_times(39_450));
+}
+
+#[test]
 fn verdict_5_length() {
     let zeros = [0; 300];
-    let lengths: [(u8, std::ops::RangeInclusive<usize>); 5] =
-        [(1, 2..=2), (2, 3..=3), (3, 3..=10), (4, 4..=19), (5, 8..=8)];
+    let lengths: [(u8, std::ops::RangeInclusive<usize>); 6] = [
+        (1, 2..=2),
+        (2, 3..=3),
+        (3, 3..=10),
+        (4, 4..=19),
+        (5, 8..=8),
+        (6, 22..=22),
+    ];
     for (tag, allowed) in lengths {
         for length in (0..30).chain([256 + allowed.start(), 300]) {
             let file = field(tag, &zeros[..length]);
@@ -182,6 +230,75 @@ fn verdict_6_intervals() {
         (u32::MAX, top),
     ] {
         assert_eq!(verdict(&intervals(least, greatest)), "REFUSED 6 0");
+    }
+}
+
+/// The verdict on the first plan with these times.
+fn first_plan_with(rate: u16, nanoseconds: [u32; 5]) -> String {
+    verdict(&[first_plan(), times(rate, nanoseconds)].concat())
+}
+
+#[test]
+fn verdict_6_times() {
+    let accepted = "ACCEPTED 6 5 4 2";
+    let refused = &format!("REFUSED 6 {}", first_plan().len());
+    for (rate, expected) in [
+        (0, &refused[..]),
+        (1, refused),
+        (2, accepted),
+        (3, accepted),
+        (399, accepted),
+        (400, accepted),
+        (401, refused),
+        (256 + 200, refused),
+        (u16::MAX, refused),
+    ] {
+        assert_eq!(first_plan_with(rate, [5_000; 5]), expected, "{rate}");
+        assert_eq!(first_plan_with(rate, [0; 5]), expected, "{rate}");
+        assert_eq!(first_plan_with(rate, [1_000_000; 5]), expected, "{rate}");
+    }
+    for place in 0..5 {
+        for (time, expected) in [
+            (0, accepted),
+            (1, accepted),
+            (999_999, accepted),
+            (1_000_000, accepted),
+            (1_000_001, refused),
+            (0x0100_0000, refused),
+            (u32::MAX, refused),
+        ] {
+            for others in [0, 5_000, 1_000_000] {
+                let mut nanoseconds = [others; 5];
+                nanoseconds[place] = time;
+                let printed = first_plan_with(200, nanoseconds);
+                assert_eq!(printed, expected, "{place}: {time} among {others}");
+            }
+        }
+    }
+}
+
+#[test]
+fn verdict_6_times_after_5_before_12() {
+    // The length is asked first, and a range before the intervals that are missing.
+    for length in [21, 23] {
+        assert_eq!(verdict(&field(6, &vec![255; length])), "REFUSED 5 0");
+    }
+    assert_eq!(verdict(&field(6, &[255; 22])), "REFUSED 6 0");
+}
+
+#[test]
+fn times_spare_no_later_verdict() {
+    let overlap = [entry(1, 0, 2, &[3]), entry(1, 1, 1, &[3])];
+    let clash = [entry(1, 0, 2, &[3]), entry(2, 1, 1, &[3])];
+    for slot_length in [0, 39_450, 1_000_000] {
+        let timed = |entries| verdict(&[plan_a(entries), usual_times(slot_length)].concat());
+        assert_eq!(timed(&overlap), "REFUSED 13 1 0");
+        // A target that no length fits counts in a clash all the same.
+        assert_eq!(timed(&clash), "REFUSED 14 1 1 2 2");
+        assert_eq!(timed(&clash[..1]), "ACCEPTED 6 5 4 1");
+        let all: Vec<u8> = (1..9).collect();
+        let file = row_plan(&[entry(0, 0, 1, &all)], &usual_times(slot_length));
+        assert_eq!(verdict(&file), "ACCEPTED 16 15 8 1");
     }
 }
 
@@ -354,6 +471,10 @@ fn verdict_12_no_intervals() {
     let file = plan_a(&overlap);
     let size = file.len() - 11;
     assert_eq!(verdict(&file[..size]), format!("REFUSED 12 {size}"));
+    // Times do not stand in for them.
+    let timed = [&file[..size], &usual_times(39_450)].concat();
+    assert_eq!(verdict(&timed), format!("REFUSED 12 {}", size + 25));
+    assert_eq!(verdict(&usual_times(39_450)), "REFUSED 12 25");
 }
 
 #[test]

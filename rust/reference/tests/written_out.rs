@@ -3,7 +3,10 @@
 mod common;
 
 use common::model::ModelPlan;
-use common::{device, entry, first_plan, intervals, link, path, plan_a, split, Driver, Random};
+use common::{
+    device, entry, first_plan, intervals, link, path, plan_a, row_plan, split, times, usual_times,
+    Driver, Random,
+};
 use reference::{Unit, WRITTEN_OUT};
 
 #[test]
@@ -31,13 +34,37 @@ fn plan_a_written_out() {
 }
 
 #[test]
+fn times_come_last() {
+    let times = times(0x0102, [0x0a_0b0c, 1, 0x02_0304, 0, 0x0f_4240]);
+    let bytes = [
+        6, 0, 22, 1, 2, 0, 10, 11, 12, 0, 0, 0, 1, 0, 2, 3, 4, 0, 0, 0, 0, 0, 15, 66, 64,
+    ];
+    assert_eq!(times, bytes);
+    let mut plain = Driver::new(&first_plan());
+    let timed = Driver::new(&[first_plan(), times.clone()].concat());
+    assert_ne!(timed.unit, plain.unit);
+    assert_eq!(timed.watchdog, plain.watchdog);
+    let expected = [plain.written_out(), times].concat();
+    assert_eq!(timed.written_out(), expected);
+    assert_eq!(Driver::new(&expected).unit, timed.unit);
+    // A plan without times after one that has them keeps none.
+    let mut driver = timed.clone();
+    driver.unit.load(&first_plan(), &mut driver.watchdog);
+    assert_eq!(driver.unit, plain.unit);
+    plain.unit.load(&expected, &mut plain.watchdog);
+    assert_eq!(plain.unit, timed.unit);
+}
+
+#[test]
 fn events_leave_the_plan() {
-    let mut driver = Driver::new(&first_plan());
-    let before = driver.written_out();
-    driver.request(1, 3, 0, 100);
-    driver.time_code(0, 1000);
-    driver.time_code(7, 1000);
-    assert_eq!(driver.written_out(), before);
+    for file in [first_plan(), [first_plan(), usual_times(39_450)].concat()] {
+        let mut driver = Driver::new(&file);
+        let before = driver.written_out();
+        driver.request(1, 3, 0, 100);
+        driver.time_code(0, 1000);
+        driver.time_code(7, 1000);
+        assert_eq!(driver.written_out(), before);
+    }
 }
 
 /// Eight initiators, each at a router of its own with six targets; the routers stand in a ring.
@@ -99,7 +126,9 @@ fn orders_make_no_difference() {
         entry(2, 59, 1, &[3, 4]),
         entry(2, 0, 1, &[4]),
     ]);
-    for file in [many, full_plan()] {
+    let timed = [full_plan(), usual_times(39_450)].concat();
+    let row = row_plan(&[entry(0, 3, 2, &[7, 2, 8])], &usual_times(0));
+    for file in [many, full_plan(), timed, row] {
         let first = Driver::new(&file);
         let expected = ModelPlan::judge(&file).unwrap().written_out();
         assert_eq!(first.written_out(), expected);
@@ -112,9 +141,15 @@ fn orders_make_no_difference() {
 }
 
 #[test]
-fn room_for_every_plan() {
-    // 64 devices and links, 128 paths of 8 links, 512 entries of 16 targets, and intervals.
-    assert_eq!(WRITTEN_OUT, 64 * 5 + 64 * 6 + 128 * 13 + 512 * 22 + 11);
+fn as_long_as_its_file() {
+    assert_eq!(WRITTEN_OUT, 16_384);
+    // No plan has more than 64 devices and links, 128 paths of 8 links, 512 entries of 16 targets,
+    // intervals and times.
+    const { assert!(64 * 5 + 64 * 6 + 128 * 13 + 512 * 22 + 11 + 25 <= WRITTEN_OUT) };
+    let timed = [full_plan(), usual_times(1)].concat();
+    for file in [first_plan(), full_plan(), timed, plan_a(&[])] {
+        assert_eq!(Driver::new(&file).written_out().len(), file.len());
+    }
 }
 
 #[test]

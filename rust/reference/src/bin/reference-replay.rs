@@ -1,7 +1,9 @@
 //! Runs a script of commands from standard input, one a line, and prints one line for each.
 #![forbid(unsafe_code)]
 
-use reference::{print_verdict, Answer, Event, Unit, Watchdog, LINE};
+use reference::{
+    print_verdict, sheet, Answer, Event, Fault, Latencies, Sheet, Unit, Watchdog, LINE,
+};
 use std::io::{self, BufRead, BufReader, Write};
 
 const FILE: usize = 16_400;
@@ -47,6 +49,7 @@ enum Command {
     },
     Watchdog,
     SetWatchdog(Watchdog),
+    Sheet(Result<Sheet, Fault>),
 }
 
 struct Replay {
@@ -125,6 +128,7 @@ impl Replay {
                 least: words.long()?,
                 greatest: words.long()?,
             }),
+            b"sheet" => Command::Sheet(words.sheet()?),
             _ => return None,
         };
         words.next().is_none().then_some(command)
@@ -149,6 +153,8 @@ impl Replay {
                 self.watchdog = watchdog;
                 self.out.extend_from_slice(b"OK");
             }
+            Command::Sheet(Ok(sheet)) => self.numbers(&[0, sheet.total]),
+            Command::Sheet(Err(fault)) => self.numbers(&[fault as u32, 0]),
         }
     }
 
@@ -296,6 +302,17 @@ impl<'a, I: Iterator<Item = &'a [u8]>> Words<I> {
 
     fn size(&mut self, greatest: usize) -> Option<usize> {
         self.number(greatest as u32)?.try_into().ok()
+    }
+
+    fn sheet(&mut self) -> Option<Result<Sheet, Fault>> {
+        let (routers, rate, length) = (self.byte()?, self.short()?, self.short()?);
+        let latencies = Latencies {
+            a: self.long()?,
+            d: self.long()?,
+            f: self.long()?,
+            g: self.long()?,
+        };
+        Some(sheet(routers, routers, rate, length, latencies))
     }
 }
 

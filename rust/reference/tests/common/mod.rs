@@ -30,6 +30,17 @@ pub fn intervals(least: u32, greatest: u32) -> Vec<u8> {
     field(5, &[least.to_be_bytes(), greatest.to_be_bytes()].concat())
 }
 
+/// Field 06: the rate, the latencies a, d, f, g, and the slot length.
+pub fn times(rate: u16, nanoseconds: [u32; 5]) -> Vec<u8> {
+    let nanoseconds = nanoseconds.map(u32::to_be_bytes).concat();
+    field(6, &[&rate.to_be_bytes()[..], &nanoseconds].concat())
+}
+
+/// The same at 200 Mbit/s with latencies of 5,000 each.
+pub fn usual_times(slot_length: u32) -> Vec<u8> {
+    times(200, [5_000, 5_000, 5_000, 5_000, slot_length])
+}
+
 /// Devices, links and paths of plan A.
 pub fn plan_a_network() -> Vec<Vec<u8>> {
     let nodes = [1, 2, 3, 4].map(|number| device(number, 0));
@@ -61,6 +72,40 @@ pub fn plan_a(entries: &[Vec<u8>]) -> Vec<u8> {
 
 pub fn first_plan() -> Vec<u8> {
     plan_a(&[entry(1, 0, 1, &[3]), entry(2, 0, 1, &[4])])
+}
+
+/// Nodes 0 to 8; routers 10 to 16 in a row, with links 10 to 15 between them; link 0 joins 0 and 10,
+/// link 8 joins 0 and 8, and link n joins node n, 1 to 7, to the router 9 + n. So n routers stand
+/// between 0 and n, and none between 0 and 8. The paths go from 0 to each.
+pub fn row_network() -> Vec<u8> {
+    let mut fields: Vec<Vec<u8>> = (0..9).map(|node| device(node, 0)).collect();
+    fields.extend((10..17).map(|router| device(router, 1)));
+    fields.push(link(0, 0, 10));
+    fields.extend((1..8).map(|node| link(node, node, 9 + node)));
+    fields.push(link(8, 0, 8));
+    fields.extend((10..16).map(|number| link(number, number, number + 1)));
+    for node in 1..8 {
+        let mut links = vec![0];
+        links.extend(10..9 + node);
+        links.push(node);
+        fields.push(path(0, node, &links));
+    }
+    fields.push(path(0, 8, &[8]));
+    fields.concat()
+}
+
+/// The path of `row_network` with so many routers: its target.
+pub fn target_behind(routers: u8) -> u8 {
+    match routers {
+        0 => 8,
+        _ => routers,
+    }
+}
+
+/// That network with these entries, and these fields after the intervals.
+pub fn row_plan(entries: &[Vec<u8>], after: &[u8]) -> Vec<u8> {
+    let intervals = intervals(90, 110);
+    [row_network(), entries.concat(), intervals, after.to_vec()].concat()
 }
 
 /// The fields of a well-formed file.

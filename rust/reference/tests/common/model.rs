@@ -15,6 +15,8 @@ pub struct ModelPlan {
     /// Span and targets by initiator and slot.
     pub entries: BTreeMap<Pair, (u8, BTreeSet<u8>)>,
     pub intervals: Option<(u32, u32)>,
+    /// Field 06: the rate, the latencies, the slot length.
+    pub times: Option<[u128; 6]>,
 }
 
 /// A verdict's number and the numbers printed after it.
@@ -53,10 +55,10 @@ impl ModelPlan {
             return Err(2);
         }
         let content = &rest[3..3 + length];
-        if tag == 0 || tag > 5 {
+        if tag == 0 || tag > 6 {
             return Err(3);
         }
-        if tag < before || tag == 5 && before == 5 {
+        if tag < before || tag == 5 && before == 5 || tag == 6 && before == 6 {
             return Err(4);
         }
         let allowed = match tag {
@@ -64,7 +66,8 @@ impl ModelPlan {
             2 => 3..=3,
             3 => 3..=10,
             4 => 4..=19,
-            _ => 8..=8,
+            5 => 8..=8,
+            _ => 22..=22,
         };
         if !allowed.contains(&length) {
             return Err(5);
@@ -100,9 +103,13 @@ impl ModelPlan {
                 let span = content[2];
                 over(&content[..2]) || span == 0 || span > 16 || over(&content[3..])
             }
-            _ => {
+            5 => {
                 let (least, greatest) = two_intervals(content);
                 greatest == 0 || greatest > 2_147_483_647 || least > greatest
+            }
+            _ => {
+                let [rate, times @ ..] = six_times(content);
+                !(2..=400).contains(&rate) || times.iter().any(|&time| time > 1_000_000)
             }
         }
     }
@@ -178,7 +185,8 @@ impl ModelPlan {
                 let key = (content[0], content[1]);
                 self.entries.insert(key, (content[2], targets));
             }
-            _ => self.intervals = Some(two_intervals(content)),
+            5 => self.intervals = Some(two_intervals(content)),
+            _ => self.times = Some(six_times(content)),
         }
     }
 
@@ -236,6 +244,16 @@ impl ModelPlan {
         .to_vec()
     }
 
+    /// Whether an entry of this initiator with this span and target has room for the length.
+    pub fn fits(&self, initiator: u8, span: u8, target: u8, length: u16) -> bool {
+        let Some([rate, a, d, f, g, slot_length]) = self.times else {
+            return length <= 256 * u16::from(span);
+        };
+        let routers = self.paths[&(initiator, target)].len() as u128 - 1;
+        let time = time(routers, rate, length.into(), [a, d, f, g]);
+        length <= 4_096 && time <= u128::from(span) * slot_length
+    }
+
     pub fn written_out(&self) -> Vec<u8> {
         let mut out = Vec::new();
         for (&device, &kind) in &self.devices {
@@ -253,17 +271,46 @@ impl ModelPlan {
         }
         let (least, greatest) = self.intervals.unwrap();
         out.extend(super::intervals(least, greatest));
+        if let Some([rate, times @ ..]) = self.times {
+            out.extend(super::times(rate as u16, times.map(|time| time as u32)));
+        }
         out
     }
 }
 
+/// The time sheet of a path with so many routers.
+pub fn time(routers: u128, rate: u128, length: u128, latencies: [u128; 4]) -> u128 {
+    let mut padded = routers;
+    while !padded.is_multiple_of(4) {
+        padded += 1;
+    }
+    let [a, d, f, g] = latencies;
+    let b = 600 * routers;
+    let c = rounded_up(10_000 * (routers + 16 + padded), rate);
+    let e = rounded_up(10_000 * (length + 1), rate);
+    let h = 600 * routers;
+    let i = rounded_up(10_000 * (routers + 8), rate);
+    a + b + c + d + e + f + g + h + i
+}
+
+fn rounded_up(dividend: u128, divisor: u128) -> u128 {
+    dividend / divisor + u128::from(!dividend.is_multiple_of(divisor))
+}
+
+/// Bytes as one number, the high byte first.
+fn number(bytes: &[u8]) -> u32 {
+    bytes
+        .iter()
+        .fold(0, |all, &byte| all << 8 | u32::from(byte))
+}
+
 fn two_intervals(content: &[u8]) -> (u32, u32) {
-    let number = |bytes: &[u8]| {
-        bytes
-            .iter()
-            .fold(0, |all, &byte| all << 8 | u32::from(byte))
-    };
     (number(&content[..4]), number(&content[4..]))
+}
+
+fn six_times(content: &[u8]) -> [u128; 6] {
+    let ends = [0, 2, 6, 10, 14, 18, 22];
+    std::array::from_fn(|index| number(&content[ends[index]..ends[index + 1]]).into())
 }
 
 /// What a verdict of the box says in the model's form.
@@ -397,7 +444,7 @@ impl Model {
             return Err(Refusal::Length);
         }
         let permitted = plan.entries.iter().any(|(&(other, _), (span, targets))| {
-            other == who && targets.contains(&target) && 256 * u16::from(*span) >= length
+            other == who && targets.contains(&target) && plan.fits(who, *span, target, length)
         });
         if !permitted {
             return Err(Refusal::NotPermitted);
@@ -514,7 +561,8 @@ impl Model {
                 continue;
             }
             let oldest = initiator.line.iter().position(|waiting| {
-                targets.contains(&waiting.target) && waiting.length <= 256 * u16::from(*span)
+                let Waiting { target, length, .. } = *waiting;
+                targets.contains(&target) && plan.fits(who, *span, target, length)
             });
             if let Some(index) = oldest {
                 let what = initiator.line.remove(index);
