@@ -1,6 +1,7 @@
-/* lent FILE..: every array of a box lent by itself, from malloc and so with nothing stored in it before the clear; then each file loaded, and
- * some events, writing out into rooms of many sizes, and the reread. For valgrind: no byte may be read that nothing was stored to, and none
- * outside an array. The status is 1 if the box is not blank after the clear, or does not hold the file that it accepted. */
+/* lent FILE..: every array of a box lent by itself, from malloc and so with nothing stored in it before the clear; then each file loaded,
+ * and some events, writing out into rooms of many sizes, and the reread; and sheets, the arrays of which are lent in the same way. For
+ * valgrind: no byte may be read that nothing was stored to, and none outside an array. The status is 1 if the box is not blank after the
+ * clear, or does not hold the file that it accepted, or a sheet is not refused where it should be. */
 #include "spwd_raw.h"
 
 #include <stdio.h>
@@ -19,7 +20,7 @@ static void *room(size_t size) {
 }
 
 static struct plan lend(void) {
-    return (struct plan){room(24), room(64), room(4096), room(128), room(8), room(1408), room(512), room(24)};
+    return (struct plan){room(24), room(64), room(4096), room(128), room(8), room(1408), room(512), room(2096)};
 }
 
 static void take_back(struct plan p) {
@@ -40,11 +41,29 @@ static void events(struct plan p, uint64_t *run, uint8_t *last, spwd_watchdog *f
 }
 
 static void write_out(struct plan p, uint32_t *answer) {
-    for (size_t size = 0; size < 14000; size += 1 + size / 3) {
+    for (size_t size = 0; size < 17000; size += 1 + size / 3) {
         uint8_t *out = room(size);
         spwd_c_write_out(p.sets, p.ends, p.rows, p.paths, p.spans, p.aims, p.numbers, out, size, answer);
         free(out);
     }
+}
+
+/* Whether each sheet is refused exactly where a number is out of its range; one that is refused answers 6 and six times 0. */
+static int sheets(void) {
+    uint32_t *latencies = room(16), *answer = room(28);
+    int right = 1;
+    for (uint32_t n = 0; n < 4096; n++) {
+        uint8_t command = (uint8_t)(n % 9), reply = (uint8_t)(n / 3 % 9);
+        uint16_t rate = (uint16_t)(n % 404), length = (uint16_t)(n * 7 % 4099);
+        uint32_t number, rest = 0;
+        for (uint32_t l = 0; l < 4; l++) latencies[l] = n % 11 == l ? 1000001 : n * 244;
+        spwd_c_sheet(command, reply, rate, length, latencies, answer);
+        number = command > 7 || reply > 7 || rate < 2 || rate > 400 || length > 4096 || n % 11 < 4 ? 6 : 0;
+        for (int term = 1; term < 7; term++) rest |= answer[term];
+        right = right && answer[0] == number && (rest == 0) == (number == 6);
+    }
+    free(latencies), free(answer);
+    return right;
 }
 
 int main(int count, char **names) {
@@ -71,6 +90,7 @@ int main(int count, char **names) {
         if (held != (verdict[0] == 0)) return 1;
     }
     take_back(p);
+    if (!sheets()) return 1;
     free(run), free(last), free(line), free(file), free(five), free(verdict), free(answer);
     return 0;
 }

@@ -33,13 +33,13 @@
 /* ---- the version of this interface: one more with each change of what is lent, of the numbers that calls take and give back, or of
  * the bytes of a plan file or a record */
 
-#define SPWD_VERSION 1
+#define SPWD_VERSION 2
 
 /* ---- sizes */
 
 enum spwd_size {
     SPWD_FILE_MOST = 16384,    /* bytes of a plan file that is not refused for its length alone */
-    SPWD_WRITTEN_MOST = 13643, /* bytes of a plan written out: room that is always enough */
+    SPWD_WRITTEN_MOST = 16384, /* bytes of a plan written out: room that is always enough */
     SPWD_RECORD_SIZE = 8,
     SPWD_RECORDS_MOST = 17,
     SPWD_RECORDS_ROOM = SPWD_RECORD_SIZE * SPWD_RECORDS_MOST, /* the least record buffer that a time-code takes */
@@ -48,7 +48,12 @@ enum spwd_size {
     SPWD_INITIATORS_MOST = 8,
     SPWD_PATHS_MOST = 128,
     SPWD_WAITING_MOST = 8,
-    SPWD_LENGTH_MOST = 4096 /* data bytes of a request */
+    SPWD_LENGTH_MOST = 4096, /* data bytes of a request, and of a sheet */
+    SPWD_ROUTERS_MOST = 7, /* routers of a path, and of a sheet */
+    SPWD_RATE_LEAST = 2, /* Mbit/s of a sheet, and of a plan's times */
+    SPWD_RATE_MOST = 400,
+    SPWD_LATENCY_MOST = 1000000, /* nanoseconds of each latency, of a sheet and of a plan's times */
+    SPWD_SLOT_LENGTH_MOST = 1000000 /* nanoseconds of a slot in a plan's times */
 };
 
 /* ---- document 01's numbers. Fields that hold them have a fixed width, so that a struct is laid out alike whatever size a compiler
@@ -81,7 +86,7 @@ typedef enum spwd_refusal {
     SPWD_NO_INITIATOR = 22,      /* request, reply */
     SPWD_UNKNOWN_KIND = 23,      /* request */
     SPWD_LENGTH_OVER_MOST = 24,  /* request */
-    SPWD_NOT_PERMITTED = 25,     /* request */
+    SPWD_NOT_PERMITTED = 25,     /* request: 256 bytes for each slot of a span, or what the plan's times allow */
     SPWD_LINE_FULL = 26,         /* request */
     SPWD_NOTHING_LIVE = 27,      /* reply */
     SPWD_OTHER_TRANSACTION = 28, /* reply */
@@ -114,7 +119,7 @@ typedef struct spwd_plan {
     uint8_t paths[1408];
     uint8_t spans[512];
     uint64_t aims[512];
-    uint32_t numbers[6];
+    uint32_t numbers[524];
 } spwd_plan;
 
 /* One box: all memory that it needs. Only `watchdog` is for the caller to read and write. */
@@ -150,6 +155,25 @@ typedef struct spwd_written {
     uint32_t size;
 } spwd_written;
 
+/* The four latencies of a sheet, in nanoseconds, by their letters in source document 000, section 4. */
+typedef struct spwd_latencies {
+    uint32_t a; /* from the time-code to the start of the command */
+    uint32_t d; /* the target authorises the command */
+    uint32_t f; /* data between link and memory, beyond the time to send it */
+    uint32_t g; /* from the last data to the start of the reply */
+} spwd_latencies;
+
+/* SPWD_TAKEN, the time of a transaction and those of its terms that are worked out, in nanoseconds, by their letters; or a number and 0. */
+typedef struct spwd_terms {
+    uint32_t number; /* SPWD_TAKEN, or SPWD_OUT_OF_RANGE */
+    uint32_t total;  /* these five and the four latencies */
+    uint32_t b;      /* the command through the routers */
+    uint32_t c;      /* sending the command's header */
+    uint32_t e;      /* sending the data and its CRC */
+    uint32_t h;      /* the reply through the routers */
+    uint32_t i;      /* sending the reply */
+} spwd_terms;
+
 /* One record of a time-code. Kinds 1 to 3 fill kind and value, the rest is 0. */
 typedef struct spwd_record {
     uint8_t kind; /* a spwd_record_kind */
@@ -180,9 +204,9 @@ typedef struct spwd_record {
 
 SPWD_HOLDS(sizes_of_64_bits, sizeof(size_t) == 8 && sizeof(void *) == 8);
 SPWD_HOLDS(records_room, SPWD_RECORDS_ROOM == 136);
-SPWD_HOLDS(plan_without_gaps, sizeof(spwd_plan) == 6264);
-SPWD_HOLDS(box_without_gaps_but_at_its_end, offsetof(spwd_box, last) == 6264 + 768 + 20);
-SPWD_HOLDS(box_size, sizeof(spwd_box) == 7056);
+SPWD_HOLDS(plan_without_gaps, sizeof(spwd_plan) == 8336);
+SPWD_HOLDS(box_without_gaps_but_at_its_end, offsetof(spwd_box, last) == 8336 + 768 + 20);
+SPWD_HOLDS(box_size, sizeof(spwd_box) == 9128);
 
 /* ---- the box */
 
@@ -316,6 +340,31 @@ static inline size_t spwd_print(const spwd_verdict *verdict, uint8_t line[SPWD_L
         numbers[place + 1] = verdict->values[place];
     }
     return spwd_c_print(numbers, line);
+}
+
+/* Works out how long one transaction takes: over so many routers, which are the links of its path less one, at a rate in Mbit/s, with so
+ * many data bytes and these latencies. No box is asked.
+ * Refusals: SPWD_OUT_OF_RANGE (over SPWD_ROUTERS_MOST, a rate outside SPWD_RATE_LEAST to SPWD_RATE_MOST, over SPWD_LENGTH_MOST, a latency
+ * over SPWD_LATENCY_MOST).
+ * Left as it was: everything. */
+SPWD_MUST_LOOK static inline spwd_terms spwd_sheet(uint8_t routers, uint16_t rate, uint16_t length, spwd_latencies latencies)
+{
+    uint32_t given[4];
+    uint32_t answer[7];
+    spwd_terms terms;
+    given[0] = latencies.a;
+    given[1] = latencies.d;
+    given[2] = latencies.f;
+    given[3] = latencies.g;
+    spwd_c_sheet(routers, routers, rate, length, given, answer);
+    terms.number = answer[0];
+    terms.total = answer[1];
+    terms.b = answer[2];
+    terms.c = answer[3];
+    terms.e = answer[4];
+    terms.h = answer[5];
+    terms.i = answer[6];
+    return terms;
 }
 
 /* Says whether every number of the box and of the five is that of a clear.

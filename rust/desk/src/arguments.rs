@@ -1,8 +1,8 @@
-//! The words behind a program's name: options that it knows, and at most one file.
+//! The words behind a program's name: options that it knows, some with words of their own, and other words.
 
 use std::ffi::OsString;
 
-/// What a program was asked for.
+/// What a program was asked for: at most one file.
 #[derive(Debug, PartialEq, Eq)]
 pub enum Asked {
     Help,
@@ -17,23 +17,64 @@ pub fn asked(
     words: impl Iterator<Item = OsString>,
     known: &[&'static str],
 ) -> Result<Asked, String> {
-    let mut options = Vec::new();
-    let mut file = None;
+    let known: Vec<_> = known.iter().map(|&option| (option, 0)).collect();
+    Ok(match given(words, &known)? {
+        Given::Help => Asked::Help,
+        Given::Words { options, others } => Asked::Run {
+            options: options.into_iter().map(|(option, _)| option).collect(),
+            file: one_file(others)?,
+        },
+    })
+}
+
+/// The options of a program, each with its words, and all other words.
+#[derive(Debug, PartialEq, Eq)]
+pub enum Given {
+    Help,
+    Words {
+        options: Vec<(&'static str, Vec<OsString>)>,
+        others: Vec<OsString>,
+    },
+}
+
+/// Of each option is known how many words behind it are its own.
+pub fn given(
+    mut words: impl Iterator<Item = OsString>,
+    known: &[(&'static str, usize)],
+) -> Result<Given, String> {
+    let (mut options, mut others) = (Vec::new(), Vec::new());
     let mut ended = false;
-    for word in words {
+    while let Some(word) = words.next() {
         let text = word.to_string_lossy();
         if !ended && text == "--" {
             ended = true;
         } else if !ended && text == "--help" {
-            return Ok(Asked::Help);
+            return Ok(Given::Help);
         } else if !ended && text.len() > 1 && text.starts_with('-') {
-            let option = known.iter().find(|option| **option == text);
-            options.push(*option.ok_or(format!("there is no option {text}"))?);
-        } else if file.is_some() {
-            return Err(format!("one file at a time, and {text} is one more"));
+            let option = known.iter().find(|(option, _)| *option == text);
+            let &(option, count) = option.ok_or(format!("there is no option {text}"))?;
+            let own: Vec<_> = words.by_ref().take(count).collect();
+            if own.len() < count {
+                let found = own.len();
+                return Err(format!(
+                    "behind {option} stand {found} words and should stand {count}"
+                ));
+            }
+            options.push((option, own));
         } else {
-            file = Some(word);
+            others.push(word);
         }
     }
-    Ok(Asked::Run { options, file })
+    Ok(Given::Words { options, others })
+}
+
+/// The only one of these words, if there is one.
+pub fn one_file(others: Vec<OsString>) -> Result<Option<OsString>, String> {
+    match others.get(1) {
+        None => Ok(others.into_iter().next()),
+        Some(more) => {
+            let more = more.to_string_lossy();
+            Err(format!("one file at a time, and {more} is one more"))
+        }
+    }
 }

@@ -1,11 +1,12 @@
 //! A field that was refused, verdicts 2 to 11: its bytes, what it says, and what is at fault in it. The number and the offset are the
 //! box's; which of the field's numbers it is about is looked up in the plan before the field.
 
-use crate::fields::{fields, Device, Entry, Field, Item, Link, Path, Timing};
+use crate::fields::{fields, Device, Entry, Field, Item, Link, Path, Times, Timing};
 use crate::layout::hex;
 use crate::plan::Plan;
 use crate::source::Source;
 use crate::text::not_well_formed;
+use spwd::{Latencies, LATENCY_MOST, RATE_LEAST, RATE_MOST, SLOT_LENGTH_MOST};
 
 /// The field at an offset, in lines.
 pub fn field_in_words(source: &Source, number: u8, offset: usize) -> Vec<String> {
@@ -80,16 +81,20 @@ fn named(item: &Item) -> Vec<(&'static str, u8)> {
             each("target", entry.targets),
         ]
         .concat(),
-        Item::Timing(_) => Vec::new(),
+        Item::Timing(_) | Item::Times(_) => Vec::new(),
     }
+}
+
+/// What is said of a number that is not within its bounds.
+pub fn outside(name: &str, number: u32, least: u32, most: u32) -> Option<String> {
+    let within = (least..=most).contains(&number);
+    (!within).then(|| format!("{name} {number} is out of range: right is {least} to {most}"))
 }
 
 fn out_of_range(item: &Item) -> Vec<String> {
     let mut found = Vec::new();
     for (name, number) in named(item) {
-        if number > 63 {
-            found.push(format!("{name} {number} is out of range: right is 0 to 63"));
-        }
+        found.extend(outside(name, number.into(), 0, 63));
     }
     match *item {
         Item::Device(Device { kind, .. }) if kind > 1 => {
@@ -104,13 +109,9 @@ fn out_of_range(item: &Item) -> Vec<String> {
                 path.target
             ));
         }
-        Item::Entry(entry) if !(1..=16).contains(&entry.span) => {
-            found.push(format!(
-                "span {} is out of range: right is 1 to 16",
-                entry.span
-            ));
-        }
+        Item::Entry(entry) => found.extend(outside("span", entry.span.into(), 1, 16)),
         Item::Timing(timing) => found.extend(interval(&timing)),
+        Item::Times(times) => found.extend(times_out_of_range(&times)),
         _ => {}
     }
     found
@@ -130,6 +131,33 @@ fn interval(timing: &Timing) -> Option<String> {
             "the greatest interval {greatest} is out of range: right is 1 to {MOST}"
         )),
     }
+}
+
+fn times_out_of_range(times: &Times) -> Vec<String> {
+    let mut found = rate_or_latencies(times.rate, times.latencies);
+    found.extend(outside(
+        "slot length",
+        times.slot_length,
+        0,
+        SLOT_LENGTH_MOST,
+    ));
+    found
+}
+
+/// What of these is out of range, in a plan's times and in a sheet by itself.
+pub fn rate_or_latencies(rate: u16, latencies: Latencies) -> Vec<String> {
+    let Latencies { a, d, f, g } = latencies;
+    let latency = |name, number| outside(name, number, 0, LATENCY_MOST);
+    [
+        outside("rate", rate.into(), RATE_LEAST.into(), RATE_MOST.into()),
+        latency("latency a", a),
+        latency("latency d", d),
+        latency("latency f", f),
+        latency("latency g", g),
+    ]
+    .into_iter()
+    .flatten()
+    .collect()
 }
 
 fn given_before(source: &Source, plan: &Plan, item: &Item) -> Vec<String> {
@@ -152,7 +180,7 @@ fn given_before(source: &Source, plan: &Plan, item: &Item) -> Vec<String> {
             plan.entry(entry.initiator, entry.slot)
                 .map(|first| first.offset),
         ),
-        Item::Timing(_) => return Vec::new(),
+        Item::Timing(_) | Item::Times(_) => return Vec::new(),
     };
     let first = first.map(|offset| format!("{what} was given at {}", source.place(offset)));
     first.into_iter().chain(twice(item)).collect()

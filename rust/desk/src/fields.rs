@@ -1,5 +1,6 @@
 //! A plan file as fields, and a field as the item that it gives. Nothing is judged here.
 
+use spwd::Latencies;
 use std::fmt::{self, Display, Formatter};
 
 /// A row of document 01's table of tags.
@@ -11,12 +12,13 @@ pub struct Tag {
     pub most: usize,
 }
 
-pub const TAGS: [Tag; 5] = [
+pub const TAGS: [Tag; 6] = [
     tag(1, "device", 2, 2),
     tag(2, "link", 3, 3),
     tag(3, "path", 3, 10),
     tag(4, "entry", 4, 19),
     tag(5, "timing", 8, 8),
+    tag(6, "slot times", 22, 22),
 ];
 
 const fn tag(tag: u8, name: &'static str, least: usize, most: usize) -> Tag {
@@ -126,7 +128,22 @@ fn item(offset: usize, tag: u8, content: &[u8]) -> Option<Item<'_>> {
             least: thirty_two(least),
             greatest: thirty_two(&content[least.len()..]),
         }),
+        (6, &[high, low, ref numbers @ ..]) => Item::Times(times(offset, [high, low], numbers)?),
         _ => return None,
+    })
+}
+
+/// The rate, and behind it five numbers of four bytes.
+fn times(offset: usize, rate: [u8; 2], numbers: &[u8]) -> Option<Times> {
+    let numbers: Vec<_> = numbers.chunks(4).map(thirty_two).collect();
+    let &[a, d, f, g, slot_length] = &numbers[..] else {
+        return None;
+    };
+    Some(Times {
+        offset,
+        rate: u16::from_be_bytes(rate),
+        latencies: Latencies { a, d, f, g },
+        slot_length,
     })
 }
 
@@ -137,6 +154,7 @@ pub enum Item<'a> {
     Path(Path<'a>),
     Entry(Entry<'a>),
     Timing(Timing),
+    Times(Times),
 }
 
 #[derive(Clone, Copy, Debug, PartialEq, Eq)]
@@ -176,6 +194,23 @@ pub struct Timing {
     pub offset: usize,
     pub least: u32,
     pub greatest: u32,
+}
+
+#[derive(Clone, Copy, Debug, PartialEq, Eq)]
+pub struct Times {
+    pub offset: usize,
+    /// Mbit/s.
+    pub rate: u16,
+    /// These and the slot length in nanoseconds.
+    pub latencies: Latencies,
+    pub slot_length: u32,
+}
+
+impl Path<'_> {
+    /// The links less one.
+    pub fn routers(&self) -> u8 {
+        self.links.len().saturating_sub(1) as u8
+    }
 }
 
 impl Entry<'_> {
@@ -228,7 +263,19 @@ impl Display for Item<'_> {
                 write!(out, "timing: least interval {}, ", timing.least)?;
                 write!(out, "greatest {}", timing.greatest)
             }
+            Item::Times(times) => write!(out, "slot times: {}", times.in_words().join(", ")),
         }
+    }
+}
+
+impl Times {
+    /// The rate and the slot length, and the latencies.
+    pub fn in_words(&self) -> [String; 2] {
+        let Latencies { a, d, f, g } = self.latencies;
+        [
+            format!("{} Mbit/s, slot length {} ns", self.rate, self.slot_length),
+            format!("latencies in ns: a {a}, d {d}, f {f}, g {g}"),
+        ]
     }
 }
 

@@ -10,7 +10,7 @@ struct Form {
     form: &'static str,
 }
 
-const FORMS: [Form; 7] = [
+const FORMS: [Form; 8] = [
     form("node", 1, 1, "node N"),
     form("router", 1, 1, "router N"),
     form("link", 3, 3, "link N A B (link N joins devices A and B)"),
@@ -27,6 +27,12 @@ const FORMS: [Form; 7] = [
         "entry I S N T.. (initiator I at slot S with span N may start to the targets T)",
     ),
     form("intervals", 2, 2, "intervals LEAST GREATEST"),
+    form(
+        "times",
+        6,
+        6,
+        "times S A D F G SLOT (S Mbit/s, latencies A D F G and slot length SLOT in ns)",
+    ),
     form(
         "bytes",
         1,
@@ -151,7 +157,8 @@ fn bytes_of(first: &str, words: &[&str]) -> Result<Vec<u8>, Vec<String>> {
         "link" => Ok(field(2, &each(words, byte)?)),
         "path" => Ok(field(3, &each(words, byte)?)),
         "entry" => Ok(field(4, &each(words, byte)?)),
-        "intervals" => Ok(field(5, &each(words, interval)?.concat())),
+        "intervals" => Ok(field(5, &each(words, long)?.concat())),
+        "times" => times(words),
         _ => each(words, hex),
     }
 }
@@ -186,8 +193,19 @@ fn each<T>(words: &[&str], value: fn(&str) -> Result<T, String>) -> Result<Vec<T
     }
 }
 
+/// The field of slot times: the rate in two bytes and the other numbers in four; or all complaints about them.
+pub fn times(words: &[&str]) -> Result<Vec<u8>, Vec<String>> {
+    let (rate, others) = words.split_at(words.len().min(1));
+    match (each(rate, short), each(others, long)) {
+        (Ok(rate), Ok(others)) => Ok(field(6, &[rate.concat(), others.concat()].concat())),
+        (rate, others) => Err([rate.err(), others.err()]
+            .map(Option::unwrap_or_default)
+            .concat()),
+    }
+}
+
 /// A number in decimal digits, at most `most`.
-fn number(word: &str, most: u32) -> Result<u32, String> {
+pub fn number(word: &str, most: u32) -> Result<u32, String> {
     if !word.bytes().all(|digit| digit.is_ascii_digit()) {
         return Err(format!(
             "'{word}' is no number; right is a number in decimal digits, 0 to {most}"
@@ -210,7 +228,11 @@ fn byte(word: &str) -> Result<u8, String> {
     number(word, 255).map(|number| number as u8)
 }
 
-fn interval(word: &str) -> Result<[u8; 4], String> {
+fn short(word: &str) -> Result<[u8; 2], String> {
+    number(word, u16::MAX.into()).map(|number| (number as u16).to_be_bytes())
+}
+
+fn long(word: &str) -> Result<[u8; 4], String> {
     number(word, u32::MAX).map(u32::to_be_bytes)
 }
 

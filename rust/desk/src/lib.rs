@@ -1,7 +1,7 @@
-//! What the desk tools `spwd-compile`, `spwd-show` and `spwd-panel` share.
+//! What the desk tools `spwd-compile`, `spwd-show`, `spwd-sheet` and `spwd-panel` share.
 //!
-//! What decides is the proved box behind the crate `spwd`: every verdict and every answer is its own. What is read here of a plan's
-//! bytes is only put into words.
+//! What decides is the proved box behind the crate `spwd`: every verdict, every time and every answer is its own. What is read here of a
+//! plan's bytes is only put into words.
 #![forbid(unsafe_code)]
 
 pub mod arguments;
@@ -17,7 +17,9 @@ pub mod page;
 pub mod panel;
 pub mod plan;
 pub mod script;
+pub mod sheet;
 pub mod source;
 pub mod streams;
 pub mod text;
+pub mod times;
 pub mod words;

@@ -1,7 +1,8 @@
-//! An accepted plan's network: devices, links, paths, intervals.
+//! An accepted plan's network: devices, links, paths, intervals, slot times.
 
 use crate::layout::{wrapped, WIDTH};
 use crate::plan::Plan;
+use crate::sheet::in_words;
 
 pub fn network(plan: &Plan) -> Vec<String> {
     let mut lines = devices(plan);
@@ -14,6 +15,7 @@ pub fn network(plan: &Plan) -> Vec<String> {
             "time-code interval: least {least}{early}, greatest {greatest}"
         ));
     }
+    lines.extend(plan.times.iter().flat_map(in_words));
     lines
 }
 

@@ -4,9 +4,11 @@ use crate::clash::{clash, overrun};
 use crate::fault::field_in_words;
 use crate::grid::grid;
 use crate::judge::{in_words, judge, Judged};
+use crate::layout::wrapped;
 use crate::network::network;
 use crate::plan::Plan;
 use crate::source::Source;
+use crate::times::never;
 use spwd::{Fault, Verdict};
 
 /// The lines of a page, and whether the plan was accepted.
@@ -30,6 +32,25 @@ fn held(judged: &Judged) -> Vec<String> {
     let mut lines = network(&plan);
     lines.push(String::new());
     lines.extend(grid(&plan));
+    lines.extend(never_permitted(&plan));
+    lines
+}
+
+/// Targets that stand in the table and can never be reached.
+fn never_permitted(plan: &Plan) -> Vec<String> {
+    let never = never(plan);
+    if never.is_empty() {
+        return Vec::new();
+    }
+    let head = "never permitted: by the slot times not even 0 bytes fit these spans";
+    let mut lines = vec![String::new(), head.to_string()];
+    for never in never {
+        let (initiator, target, span) = (never.initiator, never.target, never.span);
+        let slots: Vec<_> = never.slots.iter().map(u8::to_string).collect();
+        let plural = if slots.len() == 1 { "" } else { "s" };
+        let head = format!("  {initiator} to {target}, span {span}, at slot{plural}");
+        lines.extend(wrapped(&head, &slots));
+    }
     lines
 }
 

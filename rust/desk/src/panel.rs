@@ -2,9 +2,12 @@
 
 use crate::judge;
 use crate::layout::{printable, shortened};
+use crate::plan::Plan;
 use crate::script::{line_of, Command, Line};
+use crate::sheet::Asked;
+use crate::times::over_time;
 use crate::words::{self, Row};
-use spwd::{records, Record, Spwd, Verdict, Watchdog};
+use spwd::{records, sheet, Record, Refusal, Spwd, Verdict, Watchdog, WRITTEN_MOST};
 
 /// A box and the line that its panel shows next.
 pub struct Panel {
@@ -77,6 +80,7 @@ impl Panel {
                 });
                 vec![five("watchdog set", &self.desk.watchdog())]
             }
+            Command::Sheet { asked, length } => vec![time(&asked, length)],
         }
     }
 
@@ -124,11 +128,23 @@ impl Panel {
             Ok(transaction) => vec![format!(
                 "request: initiator {initiator} number {transaction} to target {target}, {what}: waiting"
             )],
-            Err(refusal) => self.refused(
-                &format!("request: initiator {initiator} to target {target}, {what}"),
-                refusal.number(),
-            ),
+            Err(refusal) => {
+                let what = format!("request: initiator {initiator} to target {target}, {what}");
+                let mut lines = self.refused(&what, refusal.number());
+                if refusal == Refusal::NOT_PERMITTED {
+                    let why = self.over_time(initiator, target, length);
+                    lines.splice(1..1, why.map(|why| format!("    {why}")));
+                }
+                lines
+            }
         }
+    }
+
+    /// Why no entry permits a request, if that is for the plan's times.
+    fn over_time(&self, initiator: u8, target: u8, length: u16) -> Option<String> {
+        let mut held = vec![0; WRITTEN_MOST];
+        let size = self.desk.write_out(&mut held).ok()?;
+        over_time(&Plan::of(&held[..size]), initiator, target, length)
     }
 
     fn reply(&mut self, initiator: u8, transaction: u16, status: u8) -> Vec<String> {
@@ -179,6 +195,19 @@ impl Panel {
         let row = words::record(kind);
         let says = self.card.then(|| format!("    kind {kind}: {}", row.means));
         says.into_iter().chain(self.to_do(&row)).collect()
+    }
+}
+
+/// A sheet by itself: its total, or what is out of range.
+fn time(asked: &Asked, length: u16) -> String {
+    let (routers, rate) = (words::routers(asked.routers), asked.rate);
+    let what = format!("sheet: {routers}, {rate} Mbit/s, {}", words::bytes(length));
+    match sheet(asked.routers, rate, length, asked.latencies) {
+        Ok(sheet) => format!("{what}: {} ns", sheet.total),
+        Err(refusal) => {
+            let why = asked.out_of_range(&[length]).join("; ");
+            format!("{what}: {refusal}: {why}")
+        }
     }
 }
 

@@ -1,6 +1,6 @@
 //! The plan that the fields of a file give, to look things up in. Whether it may be loaded is for the box to say.
 
-use crate::fields::{fields, Device, Entry, Field, Item, Link, Path, Timing};
+use crate::fields::{fields, Device, Entry, Field, Item, Link, Path, Times, Timing};
 
 #[derive(Debug, Default)]
 pub struct Plan<'a> {
@@ -9,6 +9,7 @@ pub struct Plan<'a> {
     pub paths: Vec<Path<'a>>,
     pub entries: Vec<Entry<'a>>,
     pub timing: Option<Timing>,
+    pub times: Option<Times>,
 }
 
 impl<'a> Plan<'a> {
@@ -26,6 +27,7 @@ impl<'a> Plan<'a> {
                 Item::Path(path) => plan.paths.push(path),
                 Item::Entry(entry) => plan.entries.push(entry),
                 Item::Timing(timing) => plan.timing = Some(timing),
+                Item::Times(times) => plan.times = Some(times),
             }
         }
         plan

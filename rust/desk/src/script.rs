@@ -1,5 +1,8 @@
 //! A line of the script that `replay` reads, as a command: words separated by one space, decimal numbers, bytes in lowercase hex.
 
+use crate::sheet::Asked;
+use spwd::Latencies;
+
 #[derive(Debug, PartialEq, Eq)]
 pub enum Command {
     Load(Vec<u8>),
@@ -29,6 +32,10 @@ pub enum Command {
     Watchdog,
     /// Last clock, seen, reported, least, greatest.
     SetWatchdog([u32; 5]),
+    Sheet {
+        asked: Asked,
+        length: u16,
+    },
 }
 
 #[derive(Debug, PartialEq, Eq)]
@@ -89,6 +96,14 @@ fn command_of(line: &[u8]) -> Option<Command> {
             long(least)?,
             long(greatest)?,
         ])),
+        (b"sheet", [routers, rate, length, latencies @ ..]) => Some(Command::Sheet {
+            asked: Asked {
+                routers: byte(routers)?,
+                rate: short(rate)?,
+                latencies: four(latencies)?,
+            },
+            length: short(length)?,
+        }),
         _ => None,
     }
 }
@@ -121,6 +136,18 @@ fn short(word: &[u8]) -> Option<u16> {
 
 fn long(word: &[u8]) -> Option<u32> {
     number(word, u32::MAX)
+}
+
+fn four(words: &[&[u8]]) -> Option<Latencies> {
+    let [a, d, f, g] = words else {
+        return None;
+    };
+    Some(Latencies {
+        a: long(a)?,
+        d: long(d)?,
+        f: long(f)?,
+        g: long(g)?,
+    })
 }
 
 fn size(word: &[u8], most: usize) -> Option<usize> {

@@ -1,6 +1,7 @@
 //! The way back: a plan file as text that compiles to the same bytes.
 
-use crate::fields::{fields, numbers, Field, Item};
+use crate::fields::{fields, numbers, Field, Item, Times};
+use spwd::Latencies;
 
 /// Bytes to a line where a field has no form of its own.
 const BYTES: usize = 16;
@@ -27,8 +28,18 @@ fn lines(field: &Field) -> Vec<String> {
         Some(Item::Timing(timing)) => {
             vec![format!("intervals {} {}", timing.least, timing.greatest)]
         }
+        Some(Item::Times(times)) => vec![times_line(&times)],
         None => bytes(field, &not_well_formed(field)),
     }
+}
+
+/// The line of a plan's times.
+pub fn times_line(times: &Times) -> String {
+    let Times {
+        rate, slot_length, ..
+    } = times;
+    let Latencies { a, d, f, g } = times.latencies;
+    format!("times {rate} {a} {d} {f} {g} {slot_length}")
 }
 
 /// Why a field gives no item.
@@ -43,7 +54,7 @@ pub fn not_well_formed(field: &Field) -> String {
             format!("the file ends in this field: of {length} bytes of content it has {left}")
         }
         None => format!(
-            "tag {:02x}, length {length}; tags are 01 to 05",
+            "tag {:02x}, length {length}; tags are 01 to 06",
             field.tag()
         ),
         Some(row) => {

@@ -1,4 +1,5 @@
-//! The words of docs/CARD.md for verdicts, refusals and records, and the short ones of a panel. tests/card.rs holds them against the card.
+//! The words of docs/CARD.md for verdicts, refusals, records and the terms of a sheet, and the short ones of a panel. tests/card.rs holds
+//! them against the card.
 
 use spwd::{Record, ERROR, READ, SUCCESS, WRITE};
 
@@ -44,13 +45,13 @@ pub const VERDICTS: [Row; 15] = [
         3,
         "offset",
         "a field of a kind that does not exist",
-        "the file is damaged, or made for another box",
+        "the file is damaged, or made for another box; kinds are 01 to 06",
     ),
     row(
         4,
         "offset",
-        "a field out of order, or a second timing field",
-        "devices, links, paths, entries, timing: in this order; timing once",
+        "a field out of order, or a second field of timing or of slot times",
+        "devices, links, paths, entries, timing, slot times: in this order; the last two once",
     ),
     row(
         5,
@@ -62,7 +63,7 @@ pub const VERDICTS: [Row; 15] = [
         6,
         "offset",
         "a number out of range, or a link or path from a device to itself",
-        "devices, links and slots are 0 to 63, spans 1 to 16, kinds 0 and 1; greatest interval 1 to 2,147,483,647 and not below the least",
+        "devices, links and slots are 0 to 63, spans 1 to 16, kinds 0 and 1; greatest interval 1 to 2,147,483,647 and not below the least; rate 2 to 400 Mbit/s, latencies and slot length up to 1,000,000 ns",
     ),
     row(
         7,
@@ -98,7 +99,7 @@ pub const VERDICTS: [Row; 15] = [
         12,
         "file length",
         "the timing field is missing",
-        "the plan is not complete",
+        "the plan is not complete; slot times are no timing",
     ),
     row(
         13,
@@ -149,7 +150,7 @@ pub const REFUSALS: [Row; 11] = [
         25,
         "request",
         "no entry of this initiator permits this target with this length",
-        "256 bytes for each slot of the span: shorter, or another plan",
+        "256 bytes for each slot of the span, or with slot times what the plan's sheet says: shorter, or another plan",
     ),
     row(
         26,
@@ -179,7 +180,7 @@ pub const REFUSALS: [Row; 11] = [
         30,
         "writing out",
         "the room is smaller than the plan",
-        "13,643 bytes are always enough",
+        "16,384 bytes are always enough",
     ),
 ];
 
@@ -220,6 +221,19 @@ pub const RECORDS: [Row; 6] = [
         "not started: an earlier transaction of this initiator is still under way",
         "the spans of an accepted plan leave no room for this; if it is ever seen, keep the box and its record buffer for examination",
     ),
+];
+
+/// The terms of a sheet by their letters, as source document 000 lists them.
+pub const TERMS: [(char, &str); 9] = [
+    ('a', "time-code to the start of the command"),
+    ('b', "the command through the routers"),
+    ('c', "sending the command's header"),
+    ('d', "the target authorises the command"),
+    ('e', "sending the data and its CRC"),
+    ('f', "data between link and memory"),
+    ('g', "last data to the start of the reply"),
+    ('h', "the reply through the routers"),
+    ('i', "sending the reply"),
 ];
 
 /// A number that the card does not have.
@@ -268,6 +282,13 @@ pub fn bytes(length: u16) -> String {
     match length {
         1 => "1 byte".to_string(),
         _ => format!("{length} bytes"),
+    }
+}
+
+pub fn routers(count: u8) -> String {
+    match count {
+        1 => "1 router".to_string(),
+        _ => format!("{count} routers"),
     }
 }
 

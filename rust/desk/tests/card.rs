@@ -3,7 +3,7 @@
 mod common;
 
 use common::root;
-use desk::words::{Row, RECORDS, REFUSALS, VERDICTS};
+use desk::words::{Row, RECORDS, REFUSALS, TERMS, VERDICTS};
 use std::fs;
 
 /// The rows of the card's tables that have as many columns, below a heading.
@@ -54,6 +54,21 @@ fn records() {
     assert_eq!(
         RECORDS.map(|row| row.number),
         std::array::from_fn(|index| 1 + index as u8)
+    );
+}
+
+/// The terms of a sheet, by letter and by name.
+#[test]
+fn terms() {
+    let card = table("A sheet").into_iter().map(|row| {
+        assert_eq!(row.len(), 3);
+        [row[0].clone(), row[1].clone()]
+    });
+    let terms = TERMS.map(|(letter, means)| [format!("({letter})"), means.to_string()]);
+    assert_eq!(card.collect::<Vec<_>>(), terms);
+    assert_eq!(
+        TERMS.map(|(letter, _)| letter),
+        ['a', 'b', 'c', 'd', 'e', 'f', 'g', 'h', 'i']
     );
 }
 

@@ -70,7 +70,8 @@ fn every_plan_in_hex() {
 #[test]
 fn every_item() {
     let text = b"# only a comment\n\n   node   007#x\n\trouter\t255 # \xc3\xa4 \xff\nlink 0 1 000000000000000000002\n\
-        path 1 2 3 4 5 6 7 8 9 10 11 12\nentry 1 64 0 9 9\nintervals 66051 4294967295\nbytes 0a Fb FF 00\n   # end";
+        path 1 2 3 4 5 6 7 8 9 10 11 12\nentry 1 64 0 9 9\nintervals 66051 4294967295\n\
+        times 258 0 1 256 65536 4294967295\nbytes 0a Fb FF 00\n   # end";
     let ran = run(COMPILE, &["-"], text);
     #[rustfmt::skip]
     let file = [
@@ -80,6 +81,7 @@ fn every_item() {
         3, 0, 12, 1, 2, 3, 4, 5, 6, 7, 8, 9, 10, 11, 12,
         4, 0, 5, 1, 64, 0, 9, 9,
         5, 0, 8, 0, 1, 2, 3, 255, 255, 255, 255,
+        6, 0, 22, 1, 2, 0, 0, 0, 0, 0, 0, 0, 1, 0, 0, 1, 0, 0, 1, 0, 0, 255, 255, 255, 255,
         10, 251, 255, 0,
     ];
     assert_eq!(ran.out, file);
@@ -132,8 +134,8 @@ fn back_for_fields_by_chance() {
     for _ in 0..2_000 {
         let mut file = Vec::new();
         for _ in 0..chance.below(20) {
-            let length = chance.below(22);
-            file.extend([chance.below(7) as u8, 0, length as u8]);
+            let length = chance.below(25);
+            file.extend([chance.below(8) as u8, 0, length as u8]);
             file.extend((0..length).map(|_| chance.byte() >> chance.below(8)));
         }
         file.truncate(file.len().saturating_sub(chance.below(3)));
@@ -143,8 +145,20 @@ fn back_for_fields_by_chance() {
 
 #[test]
 fn back_in_words() {
-    let file = b"\x01\0\x02\x07\0\x01\0\x02\x08\x01\x01\0\x02\x09\x02\x01\0\x01\x07\x03\0\x02\x01\x02\x06\0\0\x05\0\x08\0\0\0Z\0\0\0n\x05\0";
-    let ran = run(COMPILE, &["--text", "-"], file);
+    #[rustfmt::skip]
+    let file = [
+        1, 0, 2, 7, 0,
+        1, 0, 2, 8, 1,
+        1, 0, 2, 9, 2,
+        1, 0, 1, 7,
+        3, 0, 2, 1, 2,
+        7, 0, 0,
+        5, 0, 8, 0, 0, 0, 90, 0, 0, 0, 110,
+        6, 0, 0,
+        6, 0, 22, 0, 200, 0, 0, 19, 136, 0, 0, 19, 136, 0, 0, 0, 0, 255, 255, 255, 255, 0, 0, 154, 26,
+        5, 0,
+    ];
+    let ran = run(COMPILE, &["--text", "-"], &file);
     assert_eq!(ran.text(), expected("compile/back.txt"));
     assert_eq!((ran.err.as_str(), ran.status), ("", 0));
     assert_eq!(run(COMPILE, &["-"], &ran.out).out, file);

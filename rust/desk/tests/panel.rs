@@ -4,6 +4,8 @@ mod common;
 
 use common::{expected, root, run, PANEL};
 use desk::script::{line_of, Command, Line};
+use desk::sheet::Asked;
+use spwd::Latencies;
 use std::fs;
 use std::io::{BufRead, BufReader, Write};
 use std::process::{Command as Process, Stdio};
@@ -25,6 +27,12 @@ fn samples() {
 #[test]
 fn everything() {
     plays(&[], "everything.txt", "panel/everything.txt", 0);
+}
+
+/// A plan with slot times: requests that are refused for these, and others.
+#[test]
+fn slot_times() {
+    plays(&[], "times.txt", "panel/times.txt", 0);
 }
 
 #[test]
@@ -123,6 +131,18 @@ fn ranges() {
         ("clk", &[4_294_967_295]),
         ("out", &[32_768]),
         ("setwd", &[4_294_967_295; 5]),
+        (
+            "sheet",
+            &[
+                255,
+                65_535,
+                65_535,
+                4_294_967_295,
+                4_294_967_295,
+                4_294_967_295,
+                4_294_967_295,
+            ],
+        ),
     ] {
         let line = |numbers: &[u64]| {
             let words: Vec<_> = numbers.iter().map(u64::to_string).collect();
@@ -179,6 +199,19 @@ fn numbers_in_their_places() {
     assert_eq!(command("out 1"), Command::Out { room: 1 });
     let five = Command::SetWatchdog([1, 2, 3, 4, 5]);
     assert_eq!(command("setwd 1 2 3 4 5"), five);
+    let latencies = Latencies {
+        a: 4,
+        d: 5,
+        f: 6,
+        g: 7,
+    };
+    let asked = Asked {
+        routers: 1,
+        rate: 2,
+        latencies,
+    };
+    let sheet = Command::Sheet { asked, length: 3 };
+    assert_eq!(command("sheet 1 2 3 4 5 6 7"), sheet);
     assert_eq!(command("load 0fa0"), Command::Load(vec![0x0f, 0xa0]));
     assert_eq!(command("wd"), Command::Watchdog);
     assert_eq!(command("clear"), Command::Clear);

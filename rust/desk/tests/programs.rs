@@ -1,15 +1,16 @@
-//! What the three programs have in common: help, wrong words, files that cannot be read, readers that go away.
+//! What the four programs have in common: help, wrong words, files that cannot be read, readers that go away.
 
 mod common;
 
-use common::{root, run, COMPILE, PANEL, SHOW};
+use common::{root, run, COMPILE, PANEL, SHEET, SHOW};
 use std::fs::File;
 use std::io::Write;
 use std::process::{Command, Stdio};
 
-const PROGRAMS: [(&str, &str); 3] = [
+const PROGRAMS: [(&str, &str); 4] = [
     ("spwd-compile", COMPILE),
     ("spwd-show", SHOW),
+    ("spwd-sheet", SHEET),
     ("spwd-panel", PANEL),
 ];
 
@@ -82,6 +83,66 @@ fn words_that_do_not_go_together() {
         &["--text", "--bytes"],
         "spwd-show: --text and --bytes exclude each other; see spwd-show --help\n",
     );
+    let alone = ["--routers", "1", "--rate", "200"];
+    let latencies = ["--latencies", "0", "0", "0", "0"];
+    let times = ["--times", "200", "0", "0", "0", "0", "0"];
+    for (words, said) in [
+        (
+            &[&["--text", "--bytes"][..]][..],
+            "--text and --bytes exclude each other",
+        ),
+        (&[&times, &times], "--times stands twice"),
+        (
+            &[&times[..6]],
+            "behind --times stand 5 words and should stand 6",
+        ),
+        (
+            &[&["--routers"]],
+            "behind --routers stand 0 words and should stand 1",
+        ),
+        (&[&alone], "--routers, --rate and --latencies go together"),
+        (
+            &[&latencies, &["0"]],
+            "--routers, --rate and --latencies go together",
+        ),
+        (&[&alone, &latencies], "a length is missing"),
+        (
+            &[&alone, &latencies, &times, &["0"]],
+            "--routers, --rate and --latencies go with no plan and none of its options",
+        ),
+        (
+            &[&alone, &latencies, &["--text", "0"]],
+            "--routers, --rate and --latencies go with no plan and none of its options",
+        ),
+        (
+            &[&alone, &latencies, &["0", "1x"]],
+            "'1x' is no number; right is a number in decimal digits, 0 to 65535",
+        ),
+        (
+            &[&alone, &latencies, &["65536"]],
+            "65536 is too great; right is a number from 0 to 65535",
+        ),
+        (
+            &[&alone[2..], &["--routers", "256"], &latencies, &["0"]],
+            "256 is too great; right is a number from 0 to 255",
+        ),
+        (
+            &[&alone[..2], &["--rate", "65536"], &latencies, &["0"]],
+            "65536 is too great; right is a number from 0 to 65535",
+        ),
+        (
+            &[&alone, &latencies[..4], &["4294967296", "0"]],
+            "4294967296 is too great; right is a number from 0 to 4294967295",
+        ),
+        (
+            &[&["--times", "x", "0", "0", "0", "0", "-1"]],
+            "'x' is no number; right is a number in decimal digits, 0 to 65535; \
+             '-1' is no number; right is a number in decimal digits, 0 to 4294967295",
+        ),
+    ] {
+        let said = format!("spwd-sheet: {said}; see spwd-sheet --help\n");
+        refused(SHEET, &words.concat(), &said);
+    }
 }
 
 #[test]
@@ -102,7 +163,12 @@ fn a_closed_pipe() {
     for (program, words, input) in [
         (COMPILE, &["--text", "-"][..], vec![7; 1 << 20]),
         (COMPILE, &["plans/sample-first.plan"], Vec::new()),
-        (SHOW, &["--text"], plan),
+        (SHOW, &["--text"], plan.clone()),
+        (
+            SHEET,
+            &["--text", "--times", "200", "0", "0", "0", "0", "0"],
+            plan,
+        ),
         (PANEL, &[], script.into_bytes()),
     ] {
         let mut child = Command::new(program)
@@ -132,6 +198,7 @@ fn a_full_disk() {
     for (name, program, words) in [
         ("spwd-compile", COMPILE, "plans/sample-first.plan"),
         ("spwd-show", SHOW, "plans/sample-first.plan"),
+        ("spwd-sheet", SHEET, "plans/times.plan"),
         ("spwd-panel", PANEL, "rust/desk/tests/scripts/samples.txt"),
     ] {
         let run = |err: Stdio| {

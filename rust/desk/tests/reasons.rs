@@ -1,4 +1,4 @@
-//! Whatever is refused is put into words: plans damaged by chance, until every verdict was seen.
+//! Whatever is refused is put into words: plans damaged by chance, until every verdict was seen, and those that slot times can get.
 
 mod common;
 
@@ -7,6 +7,7 @@ use desk::judge::judge;
 use desk::page::page;
 use desk::source::Source;
 use spwd::{Fault, Verdict};
+use std::collections::BTreeSet;
 
 /// A plan with a byte changed, or with fields left out, doubled or exchanged.
 fn damaged(chance: &mut Chance, file: &[u8]) -> Vec<u8> {
@@ -90,8 +91,12 @@ fn every_refusal_is_explained() {
     // A plan with 128 paths, so that one more is at hand, and one that is too long.
     whole.push(many_paths());
     whole.push(vec![1; 16_385]);
+    // Timing and slot times alone, so that one of them is soon given twice.
+    let alone = desk::form::compile(b"intervals 90 110\ntimes 200 0 0 0 0 30000");
+    whole.push(alone.unwrap().bytes);
     let mut chance = Chance(0x5eed_0003);
     let mut seen = [0; 15];
+    let mut of_times = BTreeSet::new();
     for _ in 0..20_000 {
         let plan = &whole[chance.below(whole.len())];
         let file = damaged(&mut chance, plan);
@@ -102,8 +107,16 @@ fn every_refusal_is_explained() {
         assert_eq!(accepted, verdict.number() == 0);
         explained(&file, &verdict, &lines);
         seen[usize::from(verdict.number())] += 1;
+        if let Verdict::Refused(Fault::File { number, place }) = verdict {
+            let tag = file.get(usize::from(place));
+            of_times.extend((tag == Some(&6)).then_some(number));
+        }
     }
     assert!(seen.iter().all(|&count| count > 0), "{seen:?}");
+    assert!(
+        [2, 4, 5, 6].iter().all(|number| of_times.contains(number)),
+        "{of_times:?}"
+    );
 }
 
 /// A star of 8 initiators and 16 further nodes, each initiator with a path to each of these.

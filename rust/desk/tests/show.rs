@@ -32,6 +32,8 @@ fn plans_of_the_project() {
         "sample-tag-6",
         "sample-intervals-twice",
         "sample-empty",
+        "times",
+        "times-never",
     ] {
         shows(&format!("plans/{name}.plan"), &format!("show/{name}.txt"));
     }
@@ -45,6 +47,23 @@ fn plans_of_these_tests() {
         if name != "complaints" {
             shows(&plan, &format!("show/{name}.txt"));
         }
+    }
+}
+
+/// Targets that the slot times never permit, in several entries and by several spans.
+#[test]
+fn never_permitted() {
+    let text = std::fs::read_to_string(common::root().join("plans/eight.plan")).unwrap();
+    for (slot_length, stored) in [
+        (20_000, "show/never-eight.txt"),
+        (1_000, "show/never-all.txt"),
+    ] {
+        let text = format!("{text}times 100 5000 5000 5000 5000 {slot_length}\n");
+        let ran = run(SHOW, &["--text"], text.as_bytes());
+        let (_, never) = ran.text().split_once("in slot 0\n").unwrap();
+        assert_eq!(never, expected(stored));
+        assert!(ran.text().lines().all(|line| line.len() <= 80));
+        assert_eq!((ran.err.as_str(), ran.status), ("", 0));
     }
 }
 

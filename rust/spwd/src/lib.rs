@@ -6,7 +6,7 @@
 //!
 //! Numbers are those of document 01; `docs/CARD.md` says of each what it means and what to do. Whatever can be refused answers a
 //! [`Result`]: a load the [`Counts`] of the plan or the [`Fault`] of the file, events and writing out what they have to say or a
-//! [`Refusal`].
+//! [`Refusal`], and [`sheet()`], which asks no box, the time of a transaction or that a number is out of range.
 //!
 //! ```
 //! use spwd::{records, Counts, Record, Spwd, READ, RECORDS_ROOM};
@@ -34,6 +34,7 @@ mod plan;
 mod raw;
 mod record;
 mod refusal;
+mod sheet;
 mod spwd;
 mod verdict;
 mod watchdog;
@@ -42,17 +43,18 @@ pub use event::{Answer, Ended, Event, ERROR, READ, RESERVED, SUCCESS, WRITE};
 pub use plan::Plan;
 pub use record::{records, Record, Records};
 pub use refusal::Refusal;
+pub use sheet::{sheet, Latencies, Sheet, SheetOutOfRange};
 pub use spwd::Spwd;
 pub use verdict::{Counts, Fault, Line, Verdict};
 pub use watchdog::Watchdog;
 
 /// The version of the interface that this crate is written for; `SPWD_VERSION` of `c/spwd.h`.
-pub const VERSION: u32 = 1;
+pub const VERSION: u32 = 2;
 
 /// Bytes of the longest plan file that is not refused for its length alone.
 pub const FILE_MOST: usize = 16_384;
 /// Bytes of the longest plan written out: room that is always enough.
-pub const WRITTEN_MOST: usize = 13_643;
+pub const WRITTEN_MOST: usize = 16_384;
 /// Bytes of a record.
 pub const RECORD_SIZE: usize = 8;
 /// How many records a time-code writes at most.
@@ -69,8 +71,18 @@ pub const INITIATORS_MOST: usize = 8;
 pub const PATHS_MOST: usize = 128;
 /// How many requests of an initiator wait at most.
 pub const WAITING_MOST: usize = 8;
-/// Data bytes of a request at most.
+/// Data bytes of a request at most, and of a sheet.
 pub const LENGTH_MOST: u16 = 4_096;
+/// Routers of a path at most, and of a sheet.
+pub const ROUTERS_MOST: u8 = 7;
+/// Mbit/s of a sheet at least, and of a plan's times.
+pub const RATE_LEAST: u16 = 2;
+/// Mbit/s of a sheet at most, and of a plan's times.
+pub const RATE_MOST: u16 = 400;
+/// Nanoseconds of each latency at most, of a sheet and of a plan's times.
+pub const LATENCY_MOST: u32 = 1_000_000;
+/// Nanoseconds of a slot at most, in a plan's times.
+pub const SLOT_LENGTH_MOST: u32 = 1_000_000;
 
 /// The version of the archive that is linked.
 pub fn version() -> u32 {

@@ -15,7 +15,7 @@ pub struct Plan {
     pub(crate) paths: [u8; 1408],
     pub(crate) spans: [u8; 512],
     pub(crate) aims: [u64; 512],
-    pub(crate) numbers: [u32; 6],
+    pub(crate) numbers: [u32; 524],
 }
 
 impl Plan {
@@ -29,7 +29,7 @@ impl Plan {
             paths: [0; 1408],
             spans: [0; 512],
             aims: [0; 512],
-            numbers: [0; 6],
+            numbers: [0; 524],
         }
     }
 

@@ -16,7 +16,7 @@ type Reach = [u64; 8];
 type Paths = [u8; 1408];
 type Spans = [u8; 512];
 type Aims = [u64; 512];
-type Numbers = [u32; 6];
+type Numbers = [u32; 524];
 
 /// Rows of the initiators: numbers, lines and live transactions.
 pub(crate) type Run = [u64; 96];
@@ -105,6 +105,14 @@ extern "C" {
         answer: &mut [u32; 2],
     );
     fn spwd_c_print(verdict: &[u32; 5], line: &mut [u8; LINE_ROOM]) -> usize;
+    fn spwd_c_sheet(
+        command_routers: u8,
+        reply_routers: u8,
+        rate: u16,
+        length: u16,
+        latencies: &[u32; 4],
+        answer: &mut [u32; 7],
+    );
     fn spwd_c_is_blank(
         sets: &Sets,
         ends: &Ends,
@@ -318,6 +326,15 @@ pub(crate) fn write_out(plan: &Plan, out: &mut [u8]) -> [u32; 2] {
 pub(crate) fn print(verdict: &[u32; 5], line: &mut [u8; LINE_ROOM]) -> usize {
     // SAFETY: references alone, each of the size that is declared.
     unsafe { spwd_c_print(verdict, line) }
+}
+
+/// The number, the total, and the five terms that are worked out.
+#[inline]
+pub(crate) fn sheet(routers: u8, rate: u16, length: u16, latencies: &[u32; 4]) -> [u32; 7] {
+    let mut answer = [0; 7];
+    // SAFETY: numbers, and references of the sizes that are declared.
+    unsafe { spwd_c_sheet(routers, routers, rate, length, latencies, &mut answer) }
+    answer
 }
 
 #[inline]

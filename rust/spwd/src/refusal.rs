@@ -19,7 +19,8 @@ impl Refusal {
     pub const UNKNOWN_KIND: Self = Self::of(23);
     /// 24, request: length over [`LENGTH_MOST`](crate::LENGTH_MOST).
     pub const LENGTH_OVER_MOST: Self = Self::of(24);
-    /// 25, request: no entry of this initiator permits the target with this length.
+    /// 25, request: no entry of this initiator permits the target with this length, which is 256 bytes for each slot of its span, or
+    /// what the plan's times allow.
     pub const NOT_PERMITTED: Self = Self::of(25);
     /// 26, request: [`WAITING_MOST`](crate::WAITING_MOST) are waiting already.
     pub const LINE_FULL: Self = Self::of(26);

@@ -87,7 +87,7 @@ impl Verdict {
     pub const CUT_OFF: u8 = 2;
     /// A tag that there is not.
     pub const UNKNOWN_TAG: u8 = 3;
-    /// A tag below the one before, or a second 05.
+    /// A tag below the one before, a second 05, or a second 06.
     pub const TAG_ORDER: u8 = 4;
     /// A length that the tag does not allow.
     pub const FIELD_LENGTH: u8 = 5;

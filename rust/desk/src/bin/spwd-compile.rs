@@ -28,8 +28,10 @@ The text form has one item a line, and # starts a comment:
     path I T L..               the path from initiator I to target T over the links L
     entry I S N T..            initiator I at slot S with span N may start transactions to the targets T
     intervals LEAST GREATEST   of the time-codes
+    times S A D F G SLOT       slot times: S Mbit/s, latencies A, D, F, G and slot length SLOT in ns; a plan
+                               may go without them
     bytes HH..                 bytes as they are, in hex
-The items stand in this order: devices, links, paths, entries, intervals.
+The items stand in this order: devices, links, paths, entries, intervals, times.
 
 A line that is none of these is said on standard error with what would be right, and nothing is written.
 Else the bytes are written, and the verdict of the box on them is said on standard error; if it refuses

@@ -3,7 +3,7 @@
 
 use spwd::Spwd;
 
-fn field(tag: u8, content: &[u8]) -> Vec<u8> {
+pub fn field(tag: u8, content: &[u8]) -> Vec<u8> {
     [&[tag, 0, content.len() as u8], content].concat()
 }
 
@@ -42,6 +42,12 @@ pub fn plan_a(entries: &[&[u8]]) -> Vec<u8> {
 /// The first plan of document 01's samples.
 pub fn first() -> Vec<u8> {
     plan_a(&[&[1, 0, 1, 3], &[2, 0, 1, 4]])
+}
+
+/// Field 06 of a rate, the latencies a, d, f and g, and a slot length.
+pub fn times(rate: u16, numbers: [u32; 5]) -> Vec<u8> {
+    let numbers = numbers.map(u32::to_be_bytes);
+    field(6, &[&rate.to_be_bytes(), numbers.as_flattened()].concat())
 }
 
 /// Intervals 90 and 110, and nothing else.

@@ -1,0 +1,89 @@
+//! The time sheet of a transaction: source document 000, section 4, in nanoseconds.
+
+use crate::raw;
+use crate::verdict::Verdict;
+use core::fmt;
+
+/// The four latencies that hardware gives, in nanoseconds, by their letters.
+#[derive(Clone, Copy, Debug, PartialEq, Eq, Default)]
+pub struct Latencies {
+    /// From the time-code to the start of the command.
+    pub a: u32,
+    /// The target authorises the command.
+    pub d: u32,
+    /// Data between link and memory, beyond the time to send it.
+    pub f: u32,
+    /// From the last data to the start of the reply.
+    pub g: u32,
+}
+
+/// The time of a transaction and those of its terms that are worked out, in nanoseconds, by their letters.
+#[derive(Clone, Copy, Debug, PartialEq, Eq, Default)]
+pub struct Sheet {
+    /// These five and the four [`Latencies`].
+    pub total: u32,
+    /// The command through the routers.
+    pub b: u32,
+    /// Sending the command's header.
+    pub c: u32,
+    /// Sending the data and its CRC.
+    pub e: u32,
+    /// The reply through the routers.
+    pub h: u32,
+    /// Sending the reply.
+    pub i: u32,
+}
+
+/// Why a sheet was refused: one of its numbers is out of range.
+#[must_use]
+#[derive(Clone, Copy, Debug, PartialEq, Eq)]
+pub struct SheetOutOfRange;
+
+impl SheetOutOfRange {
+    /// Document 01's number.
+    pub const NUMBER: u32 = Verdict::OUT_OF_RANGE as u32;
+}
+
+impl fmt::Display for SheetOutOfRange {
+    fn fmt(&self, formatter: &mut fmt::Formatter<'_>) -> fmt::Result {
+        write!(formatter, "refused {}", Self::NUMBER)
+    }
+}
+
+impl core::error::Error for SheetOutOfRange {}
+
+/// How long one transaction takes: over so many routers, which are the links of its path less one, at a rate in Mbit/s, with so many data
+/// bytes and these latencies. Every term is rounded up by itself.
+///
+/// ```
+/// use spwd::{sheet, Latencies};
+///
+/// let latencies = Latencies { a: 5_000, d: 5_000, f: 5_000, g: 5_000 };
+/// assert_eq!(sheet(4, 200, 256, latencies).unwrap().total, 39_450);
+/// ```
+///
+/// # Errors
+/// [`SheetOutOfRange`]: over [`ROUTERS_MOST`](crate::ROUTERS_MOST), a rate outside [`RATE_LEAST`](crate::RATE_LEAST) to
+/// [`RATE_MOST`](crate::RATE_MOST), over [`LENGTH_MOST`](crate::LENGTH_MOST), or a latency over [`LATENCY_MOST`](crate::LATENCY_MOST).
+pub fn sheet(
+    routers: u8,
+    rate: u16,
+    length: u16,
+    latencies: Latencies,
+) -> Result<Sheet, SheetOutOfRange> {
+    let Latencies { a, d, f, g } = latencies;
+    let [number, terms @ ..] = raw::sheet(routers, rate, length, &[a, d, f, g]);
+    if number != 0 {
+        debug_assert_eq!((number, terms), (SheetOutOfRange::NUMBER, [0; 6]));
+        return Err(SheetOutOfRange);
+    }
+    let [total, b, c, e, h, i] = terms;
+    Ok(Sheet {
+        total,
+        b,
+        c,
+        e,
+        h,
+        i,
+    })
+}
