@@ -60,11 +60,14 @@ fn past(need: u64, slot: u32, k: u64, step: u64) -> u64
     if on * (slot as u64) < need { on } else { k }
 }
 
-// How many slots the need takes, 17 where 16 are too few: by halves.
+// How many slots the need takes, 17 where 16 are too few: by halves. One slot is asked first, since most entries have no more.
 fn least_slots(need: u64, slot: u32) -> u8
     requires { ⌜ 0 < need ⌝ }
     ensures { λ r. ⌜ r ≡ firstFrom 16 1 (λ (k : ℕ). leb need (k * slot)) ⌝ }
 {
+    if need <= slot as u64 {
+        return 1;
+    }
     if 16 * (slot as u64) < need {
         return NO_SPAN;
     }

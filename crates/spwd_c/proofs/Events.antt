@@ -19,12 +19,12 @@ use Rattle.rules_box.specs.laws.Steps.{step-cases}
 use Rattle.memory_run.specs.Memory.{Finds, Answers, Does}
 use Rattle.run_events.specs.Values.{listed}
 use Rattle.run_events.specs.laws.Events.{by-time-code, by-request, by-reply, by-reading}
-use Rattle.spwd_c.specs.Exports.{TimeCodes, Requests, Replies, Readings, withTimes, reportedWhere}
+use Rattle.spwd_c.specs.Exports.{TimeCodes, Requests, Replies, Readings, withIntervals, reportedWhere}
 
 -- a time-code keeps least and greatest
-times-kept : (room : ℕ) (b : Box) (w : Watchdog) (byte clock : ℕ) → let o = step room b w (TimeCode byte clock) in withTimes (o .watchdog) w ≡ o .watchdog
+times-kept : (room : ℕ) (b : Box) (w : Watchdog) (byte clock : ℕ) → let o = step room b w (TimeCode byte clock) in withIntervals (o .watchdog) w ≡ o .watchdog
 unfolding accepts fed
-times-kept room b w byte clock = step-cases room b w (TimeCode byte clock) (λ (o : Outcome). withTimes (o .watchdog) w ≡ o .watchdog) (λ _. refl) (λ _. refl)
+times-kept room b w byte clock = step-cases room b w (TimeCode byte clock) (λ (o : Outcome). withIntervals (o .watchdog) w ≡ o .watchdog) (λ _. refl) (λ _. refl)
 
 -- a reading changes only whether reported, where that is told
 same-not-reported : (w : Watchdog) → reportedWhere (not (eqb (w .reported) (w .reported))) w ≡ w
@@ -64,15 +64,15 @@ module _ {eight : List ℕ} (a : Answer) (told : eight ≡ listed (values a)) wh
 
   pub time-codes : (w w′ : Watchdog) {spans aims numbers run last : List ℕ} {byte clock : ℕ} {records run′ last′ records′ : List ℕ}
       → ((b : Box) (rows : List ℕ) → Finds b rows spans aims numbers run last → Does (step (length records) b w (TimeCode byte clock)) clock a w′ run′ last′ records records′)
-      → TimeCodes spans aims numbers run last w byte clock records run′ last′ (withTimes w′ w) records′ eight
+      → TimeCodes spans aims numbers run last w byte clock records run′ last′ (withIntervals w′ w) records′ eight
   time-codes w w′ {byte = byte} {clock = clock} {records = records} {run′ = run′} {last′ = last′} does = record {
     steps = record {
       answer = a;
       numbers = told;
       does = λ rows b f.
           let d = does b rows f in
-          by-time-code (length records) b w _ a run′ last′ records _ _ (withTimes w′ w) _ refl
-          (record { answers = d .answers; watchdog = ap (λ (v : Watchdog). withTimes v w) (d .watchdog) ∙ times-kept (length records) b w byte clock; records = d .records });
+          by-time-code (length records) b w _ a run′ last′ records _ _ (withIntervals w′ w) _ refl
+          (record { answers = d .answers; watchdog = ap (λ (v : Watchdog). withIntervals v w) (d .watchdog) ∙ times-kept (length records) b w byte clock; records = d .records });
     };
   }
 

@@ -42,8 +42,8 @@ pub record EventAnswered (answer′ : List ℕ) (Does : Answer → Type 0) : Typ
   pub does : Does answer
 
 -- a watchdog with the least and the greatest of another: they are the plan's, and no event changes them
-abbrev pub withTimes : Watchdog → Watchdog → Watchdog
-withTimes r w = record { last = r .last; seen = r .seen; reported = r .reported; least = w .least; greatest = w .greatest }
+abbrev pub withIntervals : Watchdog → Watchdog → Watchdog
+withIntervals r w = record { last = r .last; seen = r .seen; reported = r .reported; least = w .least; greatest = w .greatest }
 
 -- `spwd_c_time_code`. It is lent no rows: run memory has the initiators of what it tells.
 pub record TimeCodes (spans aims numbers run last : List ℕ) (w : Watchdog) (byte clock : ℕ) (records run′ last′ : List ℕ) (w′ : Watchdog) (records′ answer′ : List ℕ) : Type 0 where

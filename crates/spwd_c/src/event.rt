@@ -1,5 +1,5 @@
 // The four events, as C calls them. "A refusal leaves state, buffers and watchdog numbers untouched and answers its number, all else 0."
-ghost use Rattle.spwd_c.specs.Exports.{TimeCodes, Requests, Replies, Readings, withTimes, reportedWhere};
+ghost use Rattle.spwd_c.specs.Exports.{TimeCodes, Requests, Replies, Readings, withIntervals, reportedWhere};
 use memory_plan::layout::*;
 use memory_run::layout::*;
 use rules_box::Watchdog;
@@ -23,7 +23,7 @@ fn time_with(
     answer: &mut [u32; 8],
 ) -> Watchdog
     ensures { λ r. ⌜ TimeCodes (now (spans .entry)) (now (aims .entry)) (now (numbers .entry)) (now (run .entry)) (now (last .entry)) w byte clock (now (records .entry))
-        (now (run .exit)) (now (last .exit)) (withTimes r w) (now (records .exit)) (now (answer .exit)) ⌝ }
+        (now (run .exit)) (now (last .exit)) (withIntervals r w) (now (records .exit)) (now (answer .exit)) ⌝ }
 {
     let done = time_code(spans, aims, numbers, run, last, w, byte, clock, records);
     let answered = done.answer;

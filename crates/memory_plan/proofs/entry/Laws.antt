@@ -85,6 +85,9 @@ module _ (need slot : ℕ) where
       first-here 16 1 _ (k + 1) (omega arith) (omega arith) (le-leb need ((k + 1) * slot) high)
       (λ m _ l. lt-leb need (m * slot) (omega (arith, mul-le-mul-right {m = m} {n = k} slot (omega arith))))
 
+  pub one-enough : 0 < need → need ≤ slot → 1 ≡ firstFrom 16 1 (λ (k : ℕ). leb need (k * slot))
+  one-enough more h = just-enough 0 (omega arith) (omega arith) (omega arith)
+
 -- one halving: on by the step, or not
 module _ (need slot k step : ℕ) where
   pub halved-on : (k + step) * slot < need → Halved need slot k step (k + step)
