@@ -1,21 +1,20 @@
 -- One item taken into memory: which arrays it leaves alone, and so that memory holds the plan with it.
-use mathlib.Core.Path.{_≡_, refl, sym, _∙_}
+use mathlib.Core.Path.{_≡_, refl, sym, ap, _∙_}
 use mathlib.Core.List.{List, []}
 use mathlib.Core.Option.{Option, none, some}
 use mathlib.Core.Bool.{Bool, true, false, cond}
-use Prim.Native.Nat.{ℕ, _/_, _%_, _≤_}
+use Prim.Native.Nat.{ℕ, _≤_}
 use lib.Dec.{eqb}
 use Rattle.lists.specs.Search.{find}
-use Rattle.lists.specs.Place.{atPlace}
 use Rattle.lists.specs.Cells.{cells}
 use Rattle.lists.specs.laws.Bools.{some-some}
-use Rattle.lists.specs.laws.Cells.{cells-same}
 use Rattle.rules_plan.specs.Plan.{two, four, Device, Link, Route, Entry, Timing, Times, Plan, Item, device, link, path, entry, timing, times, grow}
 use Rattle.rules_plan.specs.Fields.{asTimes, Tag, tagOf, lengthAllowed, itemOf}
 use Rattle.rules_plan.specs.Meaning.{hasKind, isLink, isInitiator, initiators, hasPath, entryAt}
 use Rattle.rules_plan.specs.laws.Lengths.{allowed}
 use Rattle.memory_plan.specs.Memory.{setsOf, endsOf, rowsOf, ofRow, reachOf, pathsInOrder, pathsOf, spanOf, spansOf, aimOf, aimsOf, costsAmong, numbersWith, HoldsSized}
 use Rattle.memory_plan.specs.Take.{itemFault, taken, timesItem}
+use Rattle.memory_plan.specs.laws.RowCells.{no-cells}
 use Rattle.load_fields.specs.Fields.{Takes}
 
 -- what a row of the table of tags says of a content: its item, and the bounds of its length
@@ -34,21 +33,17 @@ times-read s r a d f g l = rw (r, a, d, f, g, l)
 
 -- while there are no entries, the arrays of entries are all 0
 module _ (p : Plan) (none-yet : p .entries ≡ []) where
-  no-cells : (f : Option Entry → ℕ) → f none ≡ 0 → cells 512 (λ (n : ℕ). ofRow p (n / 64) (λ (i : ℕ). f (entryAt (p .entries) i (n % 64)))) ≡ cells 512 (λ (n : ℕ). 0)
-  unfolding ofRow entryAt find initiators isInitiator
-  no-cells f z = cells-same 512 _ _ 0 (λ n l. rw none-yet (go (atPlace (n / 64) (initiators p))))
-    where
-      go : (o : Option ℕ) → _≡_ {A = ℕ} (elim o [ none ↦ 0 | some i ↦ f none ]) 0
-      go none = refl
-      go (some i) = z
+  no-entry : (f : Option Entry → ℕ) → f none ≡ 0 → (i v : ℕ) → f (entryAt (p .entries) i v) ≡ 0
+  unfolding entryAt find
+  no-entry f z i v = ap (λ (es : List Entry). f (entryAt es i v)) none-yet ∙ z
 
   pub no-spans : spansOf p ≡ cells 512 (λ (n : ℕ). 0)
   unfolding spansOf spanOf
-  no-spans = no-cells spanOf refl
+  no-spans = no-cells p _ (no-entry spanOf refl)
 
   pub no-aims : aimsOf p ≡ cells 512 (λ (n : ℕ). 0)
   unfolding aimsOf aimOf
-  no-aims = no-cells aimOf refl
+  no-aims = no-cells p _ (no-entry aimOf refl)
 
 -- an array that does not change when the item is added does not change when it is taken
 left-alone : (f : Plan → List ℕ) (p : Plan) (x : Item) → f (grow p x) ≡ f p → f p ≡ f (taken p x)

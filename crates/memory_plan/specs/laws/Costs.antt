@@ -16,7 +16,7 @@ use Rattle.lists.specs.Place.{atPlace}
 use Rattle.lists.specs.laws.At.{at-within}
 use Rattle.lists.specs.laws.Bools.{both-true, true-both, not-both, same-test}
 use Rattle.lists.specs.Cells.{cells}
-use Rattle.lists.specs.laws.Cells.{cell-at, cells-same}
+use Rattle.lists.specs.laws.Cells.{cell-at}
 use Rattle.lists.specs.laws.Search.{find-some}
 use Rattle.lists.specs.laws.Found.{find-one, read-shuffled}
 use Rattle.lists.specs.laws.Shuffle.{eq-respects}
@@ -29,8 +29,8 @@ use Rattle.rules_plan.specs.laws.Sheets.{TimesRange, fits-product, fixed-some}
 use Rattle.rules_plan.specs.laws.Spans.{fits-untimed, fits-timed}
 use Rattle.memory_plan.specs.Memory.{ofRow, costOf, costsAmong, costsOf, numbersWith, rateIn, slotIn, costIn}
 use Rattle.memory_plan.specs.Spans.{fitsInWords, leastInWords}
-use Rattle.memory_plan.specs.laws.InRows.{of-row, of-no-row}
-use Rattle.memory_plan.specs.laws.RowCells.{cell-more}
+use Rattle.memory_plan.specs.laws.InRows.{of-row}
+use Rattle.memory_plan.specs.laws.RowCells.{no-cells, cell-more}
 
 -- the cell of a row and a target
 pub costs-at : (p : Plan) (x : Times) (xs : List Route) (r i t : ℕ) → r < 8 → t < 64 → atPlace r (initiators p) ≡ some i
@@ -43,28 +43,17 @@ costs-at p x xs r i t row low at =
     ∙ rw (a, b) (of-row p r i _ at)
 
 -- without times, and without paths, they are all 0
-no-cells : (p : Plan) (x : Times) (xs : List Route) → ((i t : ℕ) → costOf x (find (leadsFrom i t) xs) ≡ 0) → costsAmong p x xs ≡ cells 512 (λ (n : ℕ). 0)
-unfolding costsAmong
-no-cells p x xs free = cells-same 512 _ _ 0 (λ n h. here (n / 64) (n % 64))
-  where
-    here : (r t : ℕ) → ofRow p r (λ (i : ℕ). costOf x (find (leadsFrom i t) xs)) ≡ 0
-    here r t = go (atPlace r (initiators p)) refl
-      where
-        go : (o : Option ℕ) → atPlace r (initiators p) ≡ o → ofRow p r (λ (i : ℕ). costOf x (find (leadsFrom i t) xs)) ≡ 0
-        go none e = of-no-row p r _ e
-        go (some i) e = of-row p r i _ e ∙ free i t
-
 pub no-costs : (p : Plan) (xs : List Route) → p .times ≡ [] → costsAmong p (timesOf (p .times)) xs ≡ cells 512 (λ (n : ℕ). 0)
-unfolding costOf timesOf
-no-costs p xs e = ap (λ (ys : List Times). costsAmong p (timesOf ys) xs) e ∙ no-cells p (timesOf []) xs (λ i t. free (find (leadsFrom i t) xs))
+unfolding costsAmong costOf timesOf
+no-costs p xs e = ap (λ (ys : List Times). costsAmong p (timesOf ys) xs) e ∙ no-cells p (λ i t. costOf (timesOf []) (find (leadsFrom i t) xs)) (λ i t. free (find (leadsFrom i t) xs))
   where
     free : (o : Option Route) → costOf (timesOf []) o ≡ 0
     free none = refl
     free (some r) = omega arith
 
 pub costs-none : (p : Plan) (x : Times) → costsAmong p x [] ≡ cells 512 (λ (n : ℕ). 0)
-unfolding costOf find
-costs-none p x = no-cells p x [] (λ i t. refl)
+unfolding costsAmong costOf find
+costs-none p x = no-cells p (λ i t. costOf x (find (leadsFrom i t) [])) (λ i t. refl)
 
 -- the order of the paths does not matter, where none is there twice
 pub costs-shuffled : (p : Plan) (x : Times) {xs ys : List Route} → Shuffled _≡_ xs ys → repeats samePathEnds xs ≡ false → costsAmong p x xs ≡ costsAmong p x ys

@@ -1,5 +1,5 @@
 -- An array with a cell for each row and each number below 64, which has what g says of the item with the row's initiator and that number:
--- with one item more one cell is stored anew.
+-- all 0 where there is nothing to say, and with one item more one cell is stored anew.
 use mathlib.Core.Path.{_≡_, refl, sym, ap, _∙_}
 use mathlib.Core.List.{List, [], _∷_, _++_}
 use mathlib.Core.Option.{Option, none, some}
@@ -13,13 +13,23 @@ use Rattle.lists.specs.Search.{any, find}
 use Rattle.lists.specs.Place.{atPlace}
 use Rattle.lists.specs.Cells.{cells}
 use Rattle.lists.specs.laws.Bools.{both-true, true-both}
-use Rattle.lists.specs.laws.Cells.{cells-set}
+use Rattle.lists.specs.laws.Cells.{cells-same, cells-set}
 use Rattle.lists.specs.laws.More.{find-more, find-same}
 use Rattle.rules_plan.specs.Plan.{Plan}
 use Rattle.rules_plan.specs.Meaning.{initiators}
 use Rattle.memory_plan.specs.Memory.{ofRow}
 use Rattle.memory_plan.specs.laws.InRows.{of-row, of-no-row}
 use Rattle.memory_plan.specs.laws.Among.{row-once}
+
+pub no-cells : (p : Plan) (f : ℕ → ℕ → ℕ) → ((i v : ℕ) → f i v ≡ 0) → cells 512 (λ (n : ℕ). ofRow p (n / 64) (λ (i : ℕ). f i (n % 64))) ≡ cells 512 (λ (n : ℕ). 0)
+no-cells p f none-said = cells-same 512 _ _ 0 (λ n h. here (n / 64) (n % 64))
+  where
+    here : (r v : ℕ) → ofRow p r (λ (i : ℕ). f i v) ≡ 0
+    here r v = go (atPlace r (initiators p)) refl
+      where
+        go : (o : Option ℕ) → atPlace r (initiators p) ≡ o → ofRow p r (λ (i : ℕ). f i v) ≡ 0
+        go none e = of-no-row p r _ e
+        go (some i) e = of-row p r i _ e ∙ none-said i v
 
 module _ {A : Type 0} (g : Option A → ℕ) (a b : A → ℕ) (p : Plan) where
   abbrev is : ℕ → ℕ → A → Bool
