@@ -95,7 +95,7 @@ pub fn of_plan(plan: &Plan, own: bool) -> Vec<String> {
     };
     let mut lines = in_words(&times);
     if !own {
-        lines.push("  given with --times, in place of the plan's own".to_string());
+        lines.push("  given with --times, not by the plan".to_string());
     }
     lines.push(String::new());
     lines.extend(times_of_paths(plan, &times));

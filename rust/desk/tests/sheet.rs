@@ -135,7 +135,7 @@ fn forms() {
 fn its_own_times_given() {
     let words = "--times 200 5000 5000 5000 5000 39450 plans/times.plan";
     let ran = run(SHEET, &words.split(' ').collect::<Vec<_>>(), b"");
-    let given = "  given with --times, in place of the plan's own\n";
+    let given = "  given with --times, not by the plan\n";
     assert_eq!(ran.text().replace(given, ""), expected("sheet/times.txt"));
     assert!(ran.text().contains(given));
 }
