@@ -1,12 +1,11 @@
 -- What a plan means, against the paper's sentences: covering, using a link, permitting.
 use mathlib.Core.Path.{_≡_, refl}
-use mathlib.Core.List.{List, [], _∷_, List·Memᴰ·head}
+use mathlib.Core.List.{List, [], _∷_}
 use mathlib.Core.Bool.{true}
 use Prim.Native.Nat.{ℕ, _+_, _-_, _%_, _<_}
 use native.Mathlib.Omega.{arith}
 use borrow.Author.Tests.{ltb-true, lt-ltb, leb-true, le-leb}
 use Rattle.lists.specs.Search.{isIn}
-use Rattle.lists.specs.laws.Append.{one-member}
 use Rattle.lists.specs.laws.Bools.{both-true, true-both}
 use Rattle.lists.specs.laws.Search.{isIn-elim, isIn-intro}
 use Rattle.rules_plan.specs.Plan.{Times}
@@ -35,7 +34,7 @@ uses-as-worded = on-path
 
 pub permits-as-worded : PermitsAsWorded
 unfolding PermitsAsWorded permits fits
-permits-as-worded p once e t n = (
+permits-as-worded p e t n = (
   λ h.
       let a = both-true (isIn t (e .targets)) (fits p e t n) h in
       (isIn-elim t (e .targets) (a .0), there (p .times) refl (a .1)),
@@ -49,13 +48,12 @@ permits-as-worded p once e t n = (
     there [] g h = by-span g (leb-true _ _ (rw (fits-untimed p i t n g (e .span)) at h))
     there (x ∷ xs) g h =
         let (short, z) = (fits-timed p i t n x xs g (e .span)) .0 h in
-        by-time {x = x} {r = z .route} (rw g (List·Memᴰ·head refl)) (z .has) (z .from) (z .to) short (z .in-time)
+        by-time {x = x} {r = z .route} g (z .has) (z .from) (z .to) short (z .in-time)
 
     back : Short p e t n → fitsIn p i t n (e .span) ≡ true
     back (by-span g h) = rw (fits-untimed p i t n g (e .span)) (le-leb _ _ h)
-    back (by-time {x} {r} m has from to short h) =
-        let g : p .times ≡ x ∷ [] = one-member (p .times) x once m in
-        (fits-timed p i t n x [] g (e .span)) .1 (short, record { route = r; has = has; from = from; to = to; in-time = h })
+    back (by-time {x} {xs} {r} g has from to short h) =
+        (fits-timed p i t n x xs g (e .span)) .1 (short, record { route = r; has = has; from = from; to = to; in-time = h })
 
 pub longer-takes-longer : LongerTakesLonger
 unfolding LongerTakesLonger

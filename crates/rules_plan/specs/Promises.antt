@@ -1,7 +1,7 @@
 -- What is proved of the definitions, each promise a type that reads like the sentence it stands for.
 use mathlib.Core.Path.{_≡_}
 use mathlib.Core.Logic.{_↔_}
-use mathlib.Core.List.{List, [], List·Memᴰ}
+use mathlib.Core.List.{List, [], _∷_, List·Memᴰ}
 use mathlib.Core.Bool.{true}
 use Prim.Native.Nat.{ℕ, _+_, _*_, _%_, _≤_, _<_}
 use lib.ListN.{length}
@@ -42,12 +42,12 @@ UsesAsWorded = (p : Plan) (i t l : ℕ) → (uses p i t l ≡ true) ↔ OnPath p
 -- whose time fits span × slot length on that path; a path that not even length 0 fits is not permitted"
 pub data Short (p : Plan) (e : Entry) (t n : ℕ) : Type 0 where
   by-span : p .times ≡ [] → n ≤ 256 * e .span → Short p e t n
-  by-time : {x : Times} {r : Route} → List·Memᴰ x (p .times) → List·Memᴰ r (p .paths) → e .initiator ≡ r .start → t ≡ r .end
+  by-time : {x : Times} {xs : List Times} {r : Route} → p .times ≡ x ∷ xs → List·Memᴰ r (p .paths) → e .initiator ≡ r .start → t ≡ r .end
       → n ≤ 4_096 → sheet x (routers r) (routers r) n ≤ e .span * x .slot → Short p e t n
 
 -- "permits the target with" such a length
 unfoldable pub PermitsAsWorded : Type 0
-PermitsAsWorded = (p : Plan) → length (p .times) ≤ 1 → (e : Entry) (t n : ℕ) → (permits p e t n ≡ true) ↔ (List·Memᴰ t (e .targets) × Short p e t n)
+PermitsAsWorded = (p : Plan) (e : Entry) (t n : ℕ) → (permits p e t n ≡ true) ↔ (List·Memᴰ t (e .targets) × Short p e t n)
 
 -- "the largest length …" is told by each length below it: what is longer takes longer.
 unfoldable pub LongerTakesLonger : Type 0

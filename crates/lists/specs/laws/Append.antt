@@ -1,6 +1,6 @@
 -- Laws of lists put one behind the other: members, tests, searches and repetitions in a list and in one that goes on behind it.
 use mathlib.Core.Path.{_≡_, refl, sym, ap, _∙_, subst}
-use mathlib.Core.List.{List, [], _∷_, _++_, map, flatMap, append-nil, append-assoc, List·Memᴰ, List·Memᴰ·head, List·Memᴰ·tail, List·Memᴰ·not-nil, Memᴰ·append-left, Memᴰ·append-right}
+use mathlib.Core.List.{List, [], _∷_, _++_, map, flatMap, append-nil, append-assoc, List·Memᴰ, List·Memᴰ·head, List·Memᴰ·tail, Memᴰ·append-left, Memᴰ·append-right}
 use mathlib.Core.Option.{some}
 use mathlib.Core.Bool.{Bool, true, false, _||_}
 use Prim.Native.Nat.{ℕ, zero, suc, _+_, _≤_}
@@ -20,12 +20,6 @@ Every P (x ∷ xs) = P x × Every P xs
 pub every-member : {A : Type 0} (P : A → Type 0) (xs : List A) → Every P xs → (x : A) → List·Memᴰ x xs → P x
 every-member P (y ∷ ys) h x (List·Memᴰ·head e) = rw e (h .0)
 every-member P (y ∷ ys) h x (List·Memᴰ·tail m) = every-member P ys (h .1) x m
-
--- a member of a list of at most one is all of it
-pub one-member : {A : Type 0} (xs : List A) (x : A) → length xs ≤ 1 → List·Memᴰ x xs → xs ≡ x ∷ []
-one-member (y ∷ []) x h (List·Memᴰ·head e) = rw e
-one-member (y ∷ []) x h (List·Memᴰ·tail m) = absurd (List·Memᴰ·not-nil m)
-one-member (y ∷ z ∷ xs) x h m = absurd (omega arith)
 
 -- a store behind the first list is one in the second
 pub set-behind : {A : Type 0} (xs ys : List A) (i : ℕ) (a : A) → set (xs ++ ys) (length xs + i) a ≡ xs ++ set ys i a
