@@ -33,7 +33,7 @@
 /* ---- the version of this interface: one more with each change of what is lent, of the numbers that calls take and give back, or of
  * the bytes of a plan file or a record */
 
-#define SPWD_VERSION 2
+#define SPWD_VERSION 3
 
 /* ---- sizes */
 
@@ -56,10 +56,11 @@ enum spwd_size {
     SPWD_SLOT_LENGTH_MOST = 1000000 /* nanoseconds of a slot in a plan's times */
 };
 
-/* ---- document 01's numbers. Fields that hold them have a fixed width, so that a struct is laid out alike whatever size a compiler
+/* ---- the numbers of documents 01 and 02. Fields that hold them have a fixed width, so that a struct is laid out alike whatever size a compiler
  * gives to an enum: switch ((spwd_refusal)answer.number) lets it warn of those that are left out. */
 
-/* Verdicts. What stands in `values` of a spwd_verdict is given beside each; what is not named is 0. */
+/* Verdicts. What stands in `values` of a spwd_verdict is given beside each; what is not named is 0.
+ * SPWD_NO_ENTRY is judged after SPWD_NO_INTERVALS and before SPWD_OVERRUN. */
 typedef enum spwd_verdict_number {
     SPWD_ACCEPTED = 0,           /* devices, links, paths, entries */
     SPWD_FILE_TOO_LONG = 1,      /* 0 */
@@ -75,7 +76,8 @@ typedef enum spwd_verdict_number {
     SPWD_NO_PATH = 11,
     SPWD_NO_INTERVALS = 12,      /* file length */
     SPWD_OVERRUN = 13,           /* initiator, slot */
-    SPWD_CLASH = 14              /* slot, smaller initiator, greater initiator, link */
+    SPWD_CLASH = 14,             /* slot, smaller initiator, greater initiator, link */
+    SPWD_NO_ENTRY = 15           /* file length */
 } spwd_verdict_number;
 
 /* Refusals of events and of writing out. */
@@ -249,7 +251,7 @@ static inline void spwd_clear(spwd_box *box)
 }
 
 /* Judges a plan file and, if it is accepted, puts the box under its plan: nothing waiting or live, the intervals in the five.
- * Refusals: verdicts SPWD_FILE_TOO_LONG to SPWD_CLASH; the box is then that of a clear.
+ * Refusals: verdicts SPWD_FILE_TOO_LONG to SPWD_NO_ENTRY; the box is then that of a clear.
  * Left as it was: the file. What the box held before is gone either way. */
 SPWD_MUST_LOOK static inline spwd_verdict spwd_load(spwd_box *box, const uint8_t *file, size_t size)
 {

@@ -30,6 +30,10 @@ fn main() {
         let name = format!("load a maximal plan up to its {part}");
         load(&name, &large::only(&Vec::from_iter(tags), &maximal));
     }
+    load(
+        "load a maximal plan without entries",
+        &large::only(&[1, 2, 3, 5], &maximal),
+    );
     let full = large::full();
     load("load a full file", &full);
     load(
@@ -38,8 +42,10 @@ fn main() {
     );
     write_out("write out plan A", &plan_a);
     write_out("write out a maximal plan", &maximal);
-    let no_entries = large::only(&[1, 2, 3, 5], &maximal);
-    write_out("write out the same without entries", &no_entries);
+    write_out(
+        "write out the same with one entry",
+        &large::one_entry(&maximal),
+    );
     events::print_events(&maximal);
     clear();
     print_memory();

@@ -5,6 +5,7 @@ use Rattle.box_promises.specs.Promises.{Promises}
 use Rattle.box_promises.proofs.Held.{holds-the-box, events-of-the-rules}
 use Rattle.box_promises.proofs.Nothing.{clear-leaves-nothing, refused-load, refused-event}
 use Rattle.box_promises.proofs.Verdicts.{verdicts-of-the-rules, same-plan-same-memory}
+use Rattle.box_promises.proofs.SomeEntry.{plan-has-an-entry}
 use Rattle.box_promises.proofs.Back.{writes-the-plan-out}
 use Rattle.box_promises.proofs.Says.{words-of-the-box}
 use Rattle.box_promises.proofs.Links.{links-never-shared}
@@ -21,6 +22,7 @@ promised p b = let ok = p .sound in record {
   refused-load = refused-load (b .refused-load);
   refused-event = refused-event ok;
   verdicts = verdicts-of-the-rules (p .words) (p .exactly);
+  some-entry = plan-has-an-entry ok;
   same = same-plan-same-memory (p .same);
   written = writes-the-plan-out ok (p .back);
   events = events-of-the-rules ok;

@@ -6,6 +6,7 @@ pub mod Requests
 pub mod Rows
 pub mod Paths
 pub mod Says
+pub mod SomeEntry
 pub mod Links
 pub mod Written
 pub mod Between

@@ -100,6 +100,18 @@ pub record VerdictOf (file : List ℕ) (v : Verdict) : Type 0 where
 unfoldable pub VerdictsOfTheRules : Type 0
 VerdictsOfTheRules = (file : List ℕ) (v : Verdict) (m : Memory) (w : Watchdog) → LoadLeaves file v m w → VerdictOf file v
 
+-- T-02: "A plan with no entry must not be accepted": in a box with a plan an entry stands at some slot of some row.
+pub record SomeEntry (m : Memory) : Type 0 where
+  pub row : ℕ
+  pub initiator : ℕ
+  pub slot : ℕ
+  pub own : RowOf m row initiator
+  pub within : slot < 64
+  pub stands : spanIn m row slot ≢ 0
+
+unfoldable pub PlanHasAnEntry : Type 0
+PlanHasAnEntry = (m : Memory) (b : Box) → Came m b → b .plan ≢ none → SomeEntry m
+
 -- "Plans are the same if they differ in these orders only": accepted loads of the same plan, and no others, leave the same memory.
 unfoldable pub SamePlanSameMemory : Type 0
 SamePlanSameMemory =
@@ -271,6 +283,7 @@ pub record Promises : Type 0 where
   pub refused-load : RefusedLoadLeavesNothing
   pub refused-event : RefusedEventChangesNothing
   pub verdicts : VerdictsOfTheRules
+  pub some-entry : PlanHasAnEntry
   pub same : SamePlanSameMemory
   pub written : WritesThePlanOut
   pub events : EventsOfTheRules

@@ -11,7 +11,7 @@ use Rattle.rules_plan.specs.Plan.{nth}
 use Rattle.rules_plan.specs.Verdict.{number, place}
 use Rattle.rules_plan.specs.Copy.{sized}
 
--- accepted: 0 devices links paths entries; 1 to 12: number place 0 0 0; 13 initiator slot 0 0; 14 slot smaller greater link
+-- accepted: 0 devices links paths entries; 1 to 12 and 15: number place 0 0 0; 13 initiator slot 0 0; 14 slot smaller greater link
 unfoldable pub verdictNumbers : Verdict → List ℕ
 verdictNumbers v = padded 5 0 (number v ∷ place v)
 

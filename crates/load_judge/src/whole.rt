@@ -1,4 +1,4 @@
-// Verdicts 12 to 14, and 0, over a whole plan in memory.
+// Verdicts 12, 15, 13 and 14, and 0, over a whole plan in memory.
 ghost use mathlib.Core.Path.{_≡_};
 ghost use Prim.Native.Nat.{ℕ, _≤_};
 ghost use lib.ListN.{length};
@@ -30,7 +30,7 @@ fn counted(sets: &Sets, numbers: &Numbers) -> Verdict
     }
 }
 
-// Verdicts 12 to 14, and 0: on a file that was read to its end, and whose plan memory holds.
+// Verdicts 12, 15, 13 and 14, and 0: on a file that was read to its end, and whose plan memory holds.
 pub fn judge_whole(
     file: &[u8],
     sets: &Sets,
@@ -48,6 +48,12 @@ pub fn judge_whole(
     if numbers[GREATEST] == 0 {
         return Verdict::Faulty {
             number: 12,
+            place: file.len() as u16,
+        };
+    }
+    if numbers[ENTRIES] == 0 {
+        return Verdict::Faulty {
+            number: 15,
             place: file.len() as u16,
         };
     }

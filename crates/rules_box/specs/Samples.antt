@@ -119,9 +119,9 @@ samples =
     ∷ row (planA (at 1 63 1 (3 ∷ []) ∷ at 2 0 1 (3 ∷ []) ∷ [])) "ACCEPTED 6 5 4 2\n"
     -- "1 at 63 span 2 {3}; 1 at 0 span 1 {3}"
     ∷ row (planA (at 1 63 2 (3 ∷ []) ∷ at 1 0 1 (3 ∷ []) ∷ [])) "REFUSED 13 1 63\n"
-    -- "Empty file"; the field 05 alone, and twice; "Bytes 06 00 00"
+    -- "Empty file"; the field 05 alone (T-02: "The sample `ACCEPTED 0 0 0 0` becomes a refusal"), and twice; "Bytes 06 00 00"
     ∷ row [] "REFUSED 12 0\n"
-    ∷ row onlyTiming "ACCEPTED 0 0 0 0\n"
+    ∷ row onlyTiming "REFUSED 15 11\n"
     ∷ row (onlyTiming ++ onlyTiming) "REFUSED 4 11\n"
     ∷ row (0x06 ∷ 0x00 ∷ 0x00 ∷ []) "REFUSED 5 0\n"
     -- "First plan: request 1→3, read, 100 gets number 0; time-code 0 at 1000 …; no reply, time-code 1 at 1100 … A reply now: 27."
@@ -148,6 +148,9 @@ samples =
     ∷ requests (overFour 39_449) (255 ∷ 256 ∷ []) (Joined 0 ∷ Refused 25 ∷ [])
     ∷ requests (overFour 26_650) (0 ∷ 1 ∷ []) (Joined 0 ∷ Refused 25 ∷ [])
     ∷ requests (overFour 26_649) (0 ∷ []) (Refused 25 ∷ [])
+    -- T-02: "A plan with no entry must not be accepted"; one that permits nothing is an entry
+    ∷ row (planA []) "REFUSED 15 101\n"
+    ∷ row (overFour 26_649) "ACCEPTED 6 5 1 1\n"
     ∷ []
 
 -- every row shows what the definitions give

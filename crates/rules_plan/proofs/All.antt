@@ -2,7 +2,7 @@
 use Rattle.rules_plan.specs.Promises.{Promises}
 use Rattle.rules_plan.proofs.Meaning.{covers-as-worded, uses-as-worded, permits-as-worded, longer-takes-longer}
 use Rattle.rules_plan.proofs.Walks.{walks-as-worded}
-use Rattle.rules_plan.proofs.Words.{verdicts-as-worded}
+use Rattle.rules_plan.proofs.Words.{verdicts-as-worded, no-entry-meets-nothing}
 use Rattle.rules_plan.proofs.Exactly.{accepted-exactly}
 use Rattle.rules_plan.proofs.Back.{same-plans, comes-back, accepted-sound}
 
@@ -14,6 +14,7 @@ promised = record {
   longer = longer-takes-longer;
   walks = walks-as-worded;
   words = verdicts-as-worded;
+  alone = no-entry-meets-nothing;
   exactly = accepted-exactly;
   same = same-plans;
   back = comes-back;

@@ -1,8 +1,8 @@
 -- The verdict that is computed is the verdict in words.
-use mathlib.Core.Path.{_≡_, refl, sym, _∙_}
-use mathlib.Core.Logic.{_≢_, _↔_}
-use mathlib.Core.List.{List, [], _∷_, cons≢nil, List·Memᴰ}
-use mathlib.Core.Option.{Option, none, some}
+use mathlib.Core.Path.{_≡_, refl}
+use mathlib.Core.Logic.{_↔_}
+use mathlib.Core.List.{List, List·Memᴰ, List·Memᴰ·not-nil}
+use mathlib.Core.Option.{none, some}
 use mathlib.Core.Bool.{Bool, true, false}
 use Prim.Native.Nat.{ℕ}
 use lib.ListN.{length}
@@ -10,17 +10,18 @@ use lib.Dec.{ltb}
 use borrow.Author.Tests.{ltb-true, ltb-false}
 use Rattle.rules_plan.specs.declared.Verdict.{Verdict}
 use Rattle.rules_plan.specs.declared.Verdict.the-variants.{Overrun, Clash}
-use Rattle.rules_plan.specs.Plan.{Timing, Entry, Plan}
+use Rattle.rules_plan.specs.Plan.{Entry, Plan}
 use Rattle.rules_plan.specs.Judge.{Reading, plan, fault, readFile, outOfRange, overrun, clash, judge}
 use Rattle.rules_plan.specs.Good.{Each}
-use Rattle.rules_plan.specs.Words.{Whole, LeastOverrun, LeastClash, NoOverrun, NoClash, Gets, over-long, faulty, without-timing, overrunning, clashing, accepted}
-use Rattle.rules_plan.specs.Promises.{VerdictsAsWorded}
+use Rattle.rules_plan.specs.Words.{Whole, LeastOverrun, LeastClash, NoOverrun, NoClash, Gets, over-long, faulty, without-timing, without-entry, overrunning, clashing, accepted}
+use Rattle.rules_plan.specs.Promises.{VerdictsAsWorded, NoEntryMeetsNothing}
 use Rattle.rules_plan.proofs.Reading.{file-says}
 use Rattle.rules_plan.specs.laws.Ranges.{EntryRange}
 use Rattle.rules_plan.specs.laws.InRange.{entry-ranged}
 use Rattle.rules_plan.specs.laws.Overruns.{overrun-says, overrun-none}
 use Rattle.rules_plan.specs.laws.Clashes.{clash-says, clash-none}
 use Rattle.rules_plan.specs.laws.Accepted.{file-fair}
+use Rattle.rules_plan.specs.laws.Verdicts.{Decided, by-12, by-15, by-13, by-14, by-none}
 use Rattle.rules_plan.specs.laws.Verdicts as judged
 
 -- what the two searches over the entries say of a whole file
@@ -50,25 +51,22 @@ module _ {s : List ℕ} {p : Plan} (w : Whole s p) where
 computed : {s : List ℕ} {v : Verdict} → Gets s v → judge s ≡ v
 computed {s} (over-long h) = judged.too-long s h
 computed {s} (faulty {at} {before} {n} {p} h r l f) = judged.field-faulty s h n at ((file-says s (fault n at)) .1 (record { before = before; plan = p; read = r; inside = l; number = f }))
-computed {s} (without-timing {p} w e) = judged.without-timing s (w .short) p (reads w) e
-computed {s} (overrunning {p} {i} {v} w t o) = judged.with-overrun s (w .short) p (reads w) t (Overrun i v) ((overrun-as w _) .1 (i, v, refl, o))
-computed {s} (clashing {p} {v} {i} {j} {l} w t n c) = judged.with-clash s (w .short) p (reads w) t (Clash v i j l) ((overrun-not w) .1 n) ((clash-as w _) .1 (v, i, j, l, refl, c))
-computed {s} (accepted {p} w t n c) = judged.with-neither s (w .short) p (reads w) t ((overrun-not w) .1 n) ((clash-not w) .1 c)
+computed {s} (without-timing {p} w e) = judged.decides s (w .short) p (reads w) (by-12 e)
+computed {s} (without-entry {p} w t e) = judged.decides s (w .short) p (reads w) (by-15 t e)
+computed {s} (overrunning {p} {i} {v} w c o) = judged.decides s (w .short) p (reads w) (by-13 c ((overrun-as w _) .1 (i, v, refl, o)))
+computed {s} (clashing {p} {v} {i} {j} {l} w c n o) = judged.decides s (w .short) p (reads w) (by-14 c ((overrun-not w) .1 n) ((clash-as w _) .1 (v, i, j, l, refl, o)))
+computed {s} (accepted {p} w c n m) = judged.decides s (w .short) p (reads w) (by-none c ((overrun-not w) .1 n) ((clash-not w) .1 m))
 
 -- the computed verdict is got
 whole-gets : (s : List ℕ) (p : Plan) → Whole s p → Gets s (judge s)
-whole-gets s p w = go (p .timings) refl
+whole-gets s p w = go (judged.decided s (w .short) p (reads w))
   where
-    timely : p .timings ≢ [] → (x : Option Verdict) → overrun (p .entries) ≡ x → (y : Option Verdict) → clash p (p .entries) ≡ y → Gets s (judge s)
-    timely h (some o) f y g = let (i, v, d, l) = (overrun-as w o) .0 f in rw (judged.with-overrun s (w .short) p (reads w) h o f, d) (overrunning w h l)
-    timely h none f (some o) g =
-        let (v, i, j, l, d, c) = (clash-as w o) .0 g in
-        rw (judged.with-clash s (w .short) p (reads w) h o f g, d) (clashing w h ((overrun-not w) .0 f) c)
-    timely h none f none g = rw (judged.with-neither s (w .short) p (reads w) h f g) (accepted w h ((overrun-not w) .0 f) ((clash-not w) .0 g))
-
-    go : (ts : List Timing) → p .timings ≡ ts → Gets s (judge s)
-    go [] e = rw (judged.without-timing s (w .short) p (reads w) e) (without-timing w e)
-    go (t ∷ ts) e = timely (λ z. cons≢nil (sym e ∙ z)) (overrun (p .entries)) refl (clash p (p .entries)) refl
+    go : {v : Verdict} → Decided s p v → Gets s v
+    go (by-12 e) = without-timing w e
+    go (by-15 t e) = without-entry w t e
+    go (by-13 c {v} f) = let (i, u, d, l) = (overrun-as w v) .0 f in rw d (overrunning w c l)
+    go (by-14 c f {v} g) = let (u, i, j, l, d, o) = (clash-as w v) .0 g in rw d (clashing w c ((overrun-not w) .0 f) o)
+    go (by-none c f g) = accepted w c ((overrun-not w) .0 f) ((clash-not w) .0 g)
 
 gets : (s : List ℕ) → Gets s (judge s)
 gets s = go (ltb 16_384 (length s)) refl (readFile s) refl
@@ -82,6 +80,10 @@ gets s = go (ltb 16_384 (length s)) refl (readFile s) refl
     go false e (plan p) f =
         let x = (file-says s (plan p)) .0 f in
         whole-gets s p (record { short = ltb-false 16_384 (length s) e; before = x .before; read = x .read })
+
+pub no-entry-meets-nothing : NoEntryMeetsNothing
+unfolding NoEntryMeetsNothing
+no-entry-meets-nothing p e = (λ i v o. List·Memᴰ·not-nil (rw e at (o .has-mine)), λ v i j l c. List·Memᴰ·not-nil (rw e at (c .has-mine)))
 
 -- For every file the verdict in words is the one that is computed.
 pub verdicts-as-worded : VerdictsAsWorded

@@ -59,6 +59,8 @@ pub record Good (p : Plan) : Type 0 where
   pub timing : length (p .timings) ≡ 1
   -- 4: "06, at most once"
   pub times : length (p .times) ≤ 1
+  -- 15: "A plan with no entry must not be accepted."
+  pub some-entry : 1 ≤ length (p .entries)
   -- 13
   pub no-overrun : overrun (p .entries) ≡ none
   -- 14

@@ -1,5 +1,5 @@
 -- The verdict on a file: "Fields are judged front to back. Within a field the smaller number wins. Then 12, 13, 14 over the whole."
--- The table of verdicts stands as rows; the first row that holds decides.
+-- T-02: "15, after 12 and before 13". The table of verdicts stands as rows; the first row that holds decides.
 use Prim.Native.Nat.{ℕ, zero, suc, _+_}
 use mathlib.Core.List.{List, [], _∷_, _++_}
 use mathlib.Core.Option.{Option, none, some}
@@ -137,9 +137,18 @@ readFrom (suc k) s at before p =
 unfoldable pub readFile : List ℕ → Reading
 readFile s = readFrom (length s) s 0 0 blank
 
--- 12: "no 05"; the place is the file length
+-- a row that holds where a file has none of some items; its place is the file length
+unfoldable pub missing : {A : Type 0} → ℕ → List ℕ → List A → Option Verdict
+missing n s [] = some (Faulty n (length s))
+missing n s (x ∷ xs) = none
+
+-- 12: "no 05"
 unfoldable pub noTiming : List ℕ → Plan → Option Verdict
-noTiming s p = elim (p .timings) [ [] ↦ some (Faulty 12 (length s)) | t ∷ ts ↦ none ]
+noTiming s p = missing 12 s (p .timings)
+
+-- 15: "A plan with no entry must not be accepted."
+unfoldable pub noEntry : List ℕ → Plan → Option Verdict
+noEntry s p = missing 15 s (p .entries)
 
 -- 13: "the entry with least initiator, then least slot"
 unfoldable pub overrunAt : List Entry → ℕ → ℕ → Option Verdict
@@ -176,6 +185,7 @@ unfoldable pub wholePlan : List ℕ → Plan → Verdict
 wholePlan s p =
     firstSome
     (noTiming s p
+    ∷ noEntry s p
     ∷ overrun (p .entries)
     ∷ clash p (p .entries)
     ∷ [])

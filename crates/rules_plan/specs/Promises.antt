@@ -14,7 +14,7 @@ use Rattle.rules_plan.specs.Judge.{judge}
 use Rattle.rules_plan.specs.Canon.{written, given, planOf, SamePlan}
 use Rattle.rules_plan.specs.Good.{Bytes, Good}
 use Rattle.rules_plan.specs.Walk.{Walk, LinksDiffer}
-use Rattle.rules_plan.specs.Words.{Gets}
+use Rattle.rules_plan.specs.Words.{NoOverrun, NoClash, Gets}
 use Rattle.rules_plan.specs.laws.Sound.{Sound}
 
 -- a file that is accepted
@@ -63,6 +63,10 @@ WalksAsWorded =
 unfoldable pub VerdictsAsWorded : Type 0
 VerdictsAsWorded = (s : List ℕ) (v : Verdict) → Gets s v ↔ (judge s ≡ v)
 
+-- T-02: "15, after 12 and before 13". A plan with no entry has nothing that runs over or clashes, so no file shows where 15 stands beside 13.
+unfoldable pub NoEntryMeetsNothing : Type 0
+NoEntryMeetsNothing = (p : Plan) → p .entries ≡ [] → NoOverrun p × NoClash p
+
 -- A file is accepted exactly when it is a good plan written out in some order of its items.
 unfoldable pub AcceptedExactly : Type 0
 AcceptedExactly = (s : List ℕ) → Bytes s → Accepted? s ↔ ((p : Plan) × (s ≡ written p) × Good p)
@@ -94,6 +98,7 @@ pub record Promises : Type 0 where
   pub longer : LongerTakesLonger
   pub walks : WalksAsWorded
   pub words : VerdictsAsWorded
+  pub alone : NoEntryMeetsNothing
   pub exactly : AcceptedExactly
   pub same : SamePlans
   pub back : WrittenOutComesBack

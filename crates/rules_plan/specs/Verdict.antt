@@ -14,6 +14,7 @@ number (Overrun i s) = 13
 number (Clash s i j l) = 14
 
 -- "Place given: 0, the four counts; 1, zero; 2 to 11, offset of the field's tag; 12, file length; 13, the entry; 14, slot, smaller initiator, greater initiator, link."
+-- T-02: 15, "place is the file length"
 unfoldable pub place : Verdict → List ℕ
 place (Accepted d l p e) = d ∷ l ∷ p ∷ e ∷ []
 place (Faulty n at) = at ∷ []

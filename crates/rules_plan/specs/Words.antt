@@ -82,6 +82,11 @@ pub record LeastClash (p : Plan) (es : List Entry) (v i j l : ℕ) : Type 0 wher
   pub here : Clashing p es v i j l
   pub least : (w a b m : ℕ) → Clashing p es w a b m → pair (pair (pair v i) j) l ≤ pair (pair (pair w a) b) m
 
+-- neither 12 nor 15: intervals and an entry are given
+pub record Complete (p : Plan) : Type 0 where
+  pub timing : p .timings ≢ []
+  pub entry : p .entries ≢ []
+
 abbrev pub NoOverrun : Plan → Type 0
 NoOverrun p = (i v : ℕ) → Overrunning (p .entries) i v → ⊥
 
@@ -94,7 +99,8 @@ pub data Gets (s : List ℕ) : Verdict → Type 0 where
   faulty : {at before n : ℕ} {p : Plan} → length s ≤ 16_384 → ReadTo s at before p → at < length s → Fault p s at before n
       → Gets s (Faulty n at)
   without-timing : {p : Plan} → Whole s p → p .timings ≡ [] → Gets s (Faulty 12 (length s))
-  overrunning : {p : Plan} {i v : ℕ} → Whole s p → p .timings ≢ [] → LeastOverrun (p .entries) i v → Gets s (Overrun i v)
-  clashing : {p : Plan} {v i j l : ℕ} → Whole s p → p .timings ≢ [] → NoOverrun p → LeastClash p (p .entries) v i j l
+  without-entry : {p : Plan} → Whole s p → p .timings ≢ [] → p .entries ≡ [] → Gets s (Faulty 15 (length s))
+  overrunning : {p : Plan} {i v : ℕ} → Whole s p → Complete p → LeastOverrun (p .entries) i v → Gets s (Overrun i v)
+  clashing : {p : Plan} {v i j l : ℕ} → Whole s p → Complete p → NoOverrun p → LeastClash p (p .entries) v i j l
       → Gets s (Clash v i j l)
-  accepted : {p : Plan} → Whole s p → p .timings ≢ [] → NoOverrun p → NoClash p → Gets s (counts p)
+  accepted : {p : Plan} → Whole s p → Complete p → NoOverrun p → NoClash p → Gets s (counts p)

@@ -11,7 +11,7 @@ pub enum Verdict {
         paths: u8,
         entries: u16,
     },
-    // 1 to 12: the number, and the place in the file
+    // 1 to 12 and 15: the number, and the place in the file
     Faulty {
         number: u8,
         place: u16,

@@ -86,8 +86,7 @@ impl<'a> Case<'a> {
     }
 
     fn file_and_some(&mut self) -> Outcome<()> {
-        let before = plans::accepted(&mut self.random);
-        self.load(before)?;
+        self.load_accepted()?;
         self.step()?;
         let file = any_file(&mut self.random);
         self.load(file)?;
@@ -102,8 +101,7 @@ impl<'a> Case<'a> {
     }
 
     fn some_events(&mut self, events: u64) -> Outcome<()> {
-        let file = plans::accepted(&mut self.random);
-        self.load(file)?;
+        self.load_accepted()?;
         for _ in 0..events {
             match self.random.below(1000) {
                 0 => self.clear()?,
@@ -111,15 +109,9 @@ impl<'a> Case<'a> {
                     let file = any_file(&mut self.random);
                     self.load(file)?;
                 }
-                3..6 => {
-                    let file = plans::accepted(&mut self.random);
-                    self.load(file)?;
-                }
+                3..6 => self.load_accepted()?,
                 6..20 => self.lend(),
-                20..60 if !self.actor.has_plan() => {
-                    let file = plans::accepted(&mut self.random);
-                    self.load(file)?;
-                }
+                20..60 if !self.actor.has_plan() => self.load_accepted()?,
                 _ => {}
             }
             self.step()?;
@@ -176,6 +168,13 @@ impl<'a> Case<'a> {
     fn sheet(&mut self, sheet: Sheet) -> Outcome<()> {
         let accepted = same_sheet(&sheet).inspect_err(|_| self.call = format!("{sheet:?}"))?;
         self.tally.sheet(accepted);
+        Ok(())
+    }
+
+    fn load_accepted(&mut self) -> Outcome<()> {
+        let file = plans::accepted(&mut self.random);
+        self.load(file)?;
+        self.tally.spoilt += u64::from(!self.actor.has_plan());
         Ok(())
     }
 

@@ -52,7 +52,7 @@ fn lengthened(file: &mut Vec<u8>, random: &mut Random) {
 
 fn fields_changed(mut fields: Vec<Vec<u8>>, random: &mut Random) -> Vec<Vec<u8>> {
     let at = random.below(fields.len());
-    match random.below(14) {
+    match random.below(15) {
         0 => drop(fields.remove(at)),
         1 => fields.insert(at, fields[at].clone()),
         2 => {
@@ -65,6 +65,7 @@ fn fields_changed(mut fields: Vec<Vec<u8>>, random: &mut Random) -> Vec<Vec<u8>>
         6 => timing_changed(&mut fields, random),
         7 => entry_changed(&mut fields, random),
         8..12 => times_changed(&mut fields, random),
+        12 => fields.retain(|field| field[0] != 4),
         _ => number_changed(&mut fields, at, random),
     }
     fields

@@ -97,6 +97,13 @@ pub fn only(tags: &[u8], file: &[u8]) -> Vec<u8> {
     fields.concat()
 }
 
+/// The plan with the first of its entries alone.
+pub fn one_entry(file: &[u8]) -> Vec<u8> {
+    let (mut fields, _) = split(file);
+    fields.dedup_by(|field, before| field[0] == 4 && before[0] == 4);
+    fields.concat()
+}
+
 /// The same plan with the fields of each tag, and the targets of each entry, in falling order.
 pub fn falling(file: &[u8]) -> Vec<u8> {
     let (mut fields, _) = split(file);

@@ -15,7 +15,7 @@ pub fn plan(random: &mut Random) -> Vec<u8> {
         1 => large::falling(&large::maximal()),
         2 => large::full(),
         3..10 => crowded(random),
-        10..12 => intervals_only(random),
+        10..13 => without_entries(random),
         _ => usual(random),
     };
     with_times(file, random)
@@ -73,8 +73,10 @@ fn usual(random: &mut Random) -> Vec<u8> {
     with_entries(random, careful)
 }
 
-fn intervals_only(random: &mut Random) -> Vec<u8> {
-    intervals_field(random)
+/// A plan up to its devices, links or paths, or not even these, with intervals.
+fn without_entries(random: &mut Random) -> Vec<u8> {
+    let kept = random.pick(&[&[5][..], &[1, 5], &[1, 2, 5], &[1, 2, 3, 5]]);
+    large::only(kept, &usual(random))
 }
 
 fn intervals_field(random: &mut Random) -> Vec<u8> {
@@ -105,19 +107,27 @@ fn network_fields(network: &Network) -> Vec<Vec<u8>> {
 /// A path: initiator, target and links.
 type Path = (u8, u8, Walk);
 
-/// A plan over a random network. A careful one has no entry that overruns or clashes.
+/// A plan over a random network, with an entry or more. A careful one has no entry that overruns or clashes.
 fn with_entries(random: &mut Random, careful: bool) -> Vec<u8> {
-    let network = Network::random(random);
-    let paths = paths(&network, random);
+    let (network, paths) = network_and_paths(random);
     let mut fields = network_fields(&network);
     for (initiator, target, walk) in &paths {
         fields.push(field(3, &[&[*initiator, *target], &walk[..]].concat()));
     }
-    if !paths.is_empty() {
-        fields.extend(entries(&paths, careful, random));
-    }
+    fields.extend(entries(&paths, careful, random));
     fields.push(intervals_field(random));
     in_order_of_tags(fields, random)
+}
+
+/// A network in which a path was found.
+fn network_and_paths(random: &mut Random) -> (Network, Vec<Path>) {
+    loop {
+        let network = Network::random(random);
+        let paths = paths(&network, random);
+        if !paths.is_empty() {
+            return (network, paths);
+        }
+    }
 }
 
 fn paths(network: &Network, random: &mut Random) -> Vec<Path> {
@@ -137,6 +147,7 @@ fn paths(network: &Network, random: &mut Random) -> Vec<Path> {
     found.take(most).collect()
 }
 
+/// One at least: the first finds room in any case.
 fn entries(paths: &[Path], careful: bool, random: &mut Random) -> Vec<Vec<u8>> {
     let mut initiators: Vec<u8> = paths.iter().map(|path| path.0).collect();
     initiators.sort();
@@ -144,7 +155,7 @@ fn entries(paths: &[Path], careful: bool, random: &mut Random) -> Vec<Vec<u8>> {
     let mut table = Table::new(initiators.len());
     let mut entries = Vec::new();
     let attempts = random.pick(&[1, 4, 16, 64, 200]);
-    for _ in 0..random.below(attempts + 1) {
+    for _ in 0..random.between(1, attempts) {
         let row = random.below(initiators.len());
         let own: Vec<&Path> = paths
             .iter()
@@ -183,7 +194,7 @@ fn aims(paths: &[&Path], random: &mut Random) -> (Vec<u8>, u64) {
     (targets, links.fold(0, |links, link| links | 1 << link))
 }
 
-/// Seven to ten initiators around one router with up to 130 paths: at or over the bounds on both.
+/// Seven to ten initiators around one router with up to 131 paths: at or over the bounds on both. Most have an entry.
 fn crowded(random: &mut Random) -> Vec<u8> {
     let mut nodes: Vec<u8> = (0..63).collect();
     random.shuffle(&mut nodes);
@@ -200,6 +211,11 @@ fn crowded(random: &mut Random) -> Vec<u8> {
     pairs.truncate(random.between(126, 131));
     let paths = pairs.iter();
     fields.extend(paths.map(|&(one, other)| field(3, &[one, other, one, other])));
+    if random.chance(900) {
+        let (initiator, target) = random.pick(&pairs);
+        let (slot, span) = (random.below(64) as u8, random.between(1, 16) as u8);
+        fields.push(field(4, &[initiator, slot, span, target]));
+    }
     fields.push(intervals_field(random));
     in_order_of_tags(fields, random)
 }

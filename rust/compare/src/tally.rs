@@ -7,13 +7,18 @@ use crate::times::{bounds, outside, Times, NUMBERS, TAG};
 use spwd::{Answer, Record};
 use std::fmt;
 
+/// The verdicts have the numbers below this.
+const VERDICTS: usize = 16;
+/// Those on a whole file.
+const WHOLE: [usize; 5] = [0, 12, 13, 14, 15];
+
 #[derive(Default)]
 pub struct Tally {
     pub files: u64,
     pub events: u64,
     pub clears: u64,
     pub lent: u64,
-    verdicts: [u64; 15],
+    verdicts: [u64; VERDICTS],
     times: TimesTally,
     refusals: [u64; 31],
     kinds: [u64; 7],
@@ -27,13 +32,15 @@ pub struct Tally {
     sheets: [u64; 2],
     /// Transactions with number 0 after number 65,535.
     pub rounds: u64,
+    /// Plans that were drawn to be accepted and were not.
+    pub spoilt: u64,
 }
 
 /// Of field 06.
 #[derive(Default)]
 struct TimesTally {
     /// The verdicts on such a field, and on a whole file that ends with one.
-    verdicts: [u64; 15],
+    verdicts: [u64; VERDICTS],
     /// Verdict 4 on a field of a lower tag behind one.
     behind: u64,
     /// For each number of the field and each of its bounds: accepted inside, refused outside and for that alone.
@@ -95,7 +102,7 @@ impl Tally {
             let never = (first..=last).filter(|&number| counts[number] == 0);
             missing.extend(never.map(|number| format!("{name} {number} was not reached")));
         };
-        want("verdict", &self.verdicts, 0, 14);
+        want("verdict", &self.verdicts, 0, VERDICTS - 1);
         want("refusal", &self.refusals, 20, 30);
         want("record kind", &self.kinds, 1, 5);
         want("class of status", &self.classes, 0, 2);
@@ -106,6 +113,15 @@ impl Tally {
         want("number after 65535", &[self.rounds], 0, 0);
         if self.kinds[6] != 0 {
             missing.push("record kind 6 occurred: no accepted plan leaves room for it".to_owned());
+        }
+        if self.spoilt != 0 {
+            let spoilt = self.spoilt;
+            missing.push(format!("{spoilt} plans drawn to be accepted were refused"));
+        }
+        for number in WHOLE {
+            if self.verdicts[number] == self.times.verdicts[number] {
+                missing.push(format!("verdict {number} without a 06 was not reached"));
+            }
         }
         missing.extend(self.times.missing());
         for (what, name) in ByTime::ALL {
@@ -149,7 +165,7 @@ impl TimesTally {
 
     fn missing(&self) -> Vec<String> {
         let mut missing = Vec::new();
-        for number in [0, 2, 4, 5, 6, 12, 13, 14] {
+        for number in [2, 4, 5, 6].into_iter().chain(WHOLE) {
             if self.verdicts[number] == 0 {
                 missing.push(format!("verdict {number} with a 06 was not reached"));
             }

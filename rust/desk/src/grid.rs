@@ -19,9 +19,6 @@ enum Cell<'a> {
 
 pub fn grid(plan: &Plan) -> Vec<String> {
     let initiators = plan.initiators();
-    if initiators.is_empty() {
-        return vec!["table: no initiator, so nothing can start".to_string()];
-    }
     let sets = sets(plan);
     let mut lines = vec![
         "table (a row for each initiator; in a slot the target, or a letter for several)"

@@ -41,7 +41,7 @@ fn fault_place(fault: &Fault) -> Option<String> {
             ..
         } => None,
         Fault::File {
-            number: Verdict::NO_INTERVALS,
+            number: Verdict::NO_INTERVALS | Verdict::NO_ENTRY,
             place,
         } => Some(format!("file length {place}")),
         Fault::File { place, .. } => Some(format!("offset {place}")),

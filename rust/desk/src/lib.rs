@@ -13,6 +13,7 @@ pub mod grid;
 pub mod judge;
 pub mod layout;
 pub mod network;
+pub mod no_entry;
 pub mod page;
 pub mod panel;
 pub mod plan;

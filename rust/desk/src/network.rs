@@ -39,9 +39,6 @@ fn devices(plan: &Plan) -> Vec<String> {
 
 fn links(plan: &Plan) -> Vec<String> {
     const COLUMN: usize = 13;
-    if plan.links.is_empty() {
-        return vec!["links: none".to_string()];
-    }
     let mut lines = vec!["links".to_string()];
     for row in plan.links.chunks((WIDTH - 2) / COLUMN) {
         let mut line = " ".to_string();
@@ -55,9 +52,6 @@ fn links(plan: &Plan) -> Vec<String> {
 }
 
 fn paths(plan: &Plan) -> Vec<String> {
-    if plan.paths.is_empty() {
-        return vec!["paths: none".to_string()];
-    }
     let mut lines = vec!["paths".to_string()];
     for path in &plan.paths {
         let (initiator, target) = (path.initiator, path.target);

@@ -6,6 +6,7 @@ use crate::grid::grid;
 use crate::judge::{in_words, judge, Judged};
 use crate::layout::wrapped;
 use crate::network::network;
+use crate::no_entry::no_entry;
 use crate::plan::Plan;
 use crate::source::Source;
 use crate::times::never;
@@ -62,6 +63,10 @@ pub fn behind(source: &Source, fault: &Fault) -> Vec<String> {
             number: number @ Verdict::CUT_OFF..=Verdict::NO_PATH,
             place,
         } => field_in_words(source, number, place.into()),
+        Fault::File {
+            number: Verdict::NO_ENTRY,
+            ..
+        } => no_entry(source, &plan),
         Fault::File { .. } => Vec::new(),
         Fault::Overrun { initiator, slot } => overrun(source, &plan, initiator, slot),
         Fault::Clash {

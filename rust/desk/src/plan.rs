@@ -73,6 +73,15 @@ impl<'a> Plan<'a> {
         initiators
     }
 
+    /// The targets that an initiator has paths to, rising.
+    pub fn targets_of(&self, initiator: u8) -> Vec<u8> {
+        let paths = self.paths.iter();
+        let own = paths.filter(|path| path.initiator == initiator);
+        let mut targets: Vec<_> = own.map(|path| path.target).collect();
+        targets.sort_unstable();
+        targets
+    }
+
     /// The devices that a path meets, its initiator first; or what keeps it from being a walk.
     pub fn walk(&self, path: &Path) -> Result<Vec<u8>, String> {
         let mut met = vec![path.initiator];

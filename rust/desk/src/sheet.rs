@@ -121,9 +121,6 @@ fn without_times(plan: &Plan) -> Vec<String> {
             path.initiator, path.target
         ));
     }
-    if plan.paths.is_empty() {
-        lines = vec!["paths: none".to_string()];
-    }
     lines.extend(
         [
             "",
@@ -139,9 +136,6 @@ fn without_times(plan: &Plan) -> Vec<String> {
 }
 
 fn times_of_paths(plan: &Plan, times: &Times) -> Vec<String> {
-    if plan.paths.is_empty() {
-        return vec!["paths: none".to_string()];
-    }
     let mut lines = vec!["time of a transaction in ns, by path and data bytes".to_string()];
     let lengths = LENGTHS.map(|length| format!("{length:>10}")).concat();
     lines.push(format!("  {:<9}{:>8}{lengths}", "path", "routers"));
@@ -159,9 +153,6 @@ fn times_of_paths(plan: &Plan, times: &Times) -> Vec<String> {
 }
 
 fn largest_lengths(plan: &Plan, times: &Times) -> Vec<String> {
-    if plan.entries.is_empty() {
-        return vec!["entries: none, so nothing is permitted".to_string()];
-    }
     let head = "largest length in bytes, by path and span of the plan's entries";
     let mut lines = vec![head.to_string()];
     for path in &plan.paths {
@@ -187,10 +178,10 @@ fn commas(mut words: Vec<String>) -> Vec<String> {
     words
 }
 
-/// The least slot length that permits as much as a plan without times does.
+/// The least slot length that permits as much as a plan without times does. An accepted plan has an entry that says it.
 fn suggestion(plan: &Plan, times: &Times) -> Vec<String> {
     let Some(longest) = longest(plan, times) else {
-        return vec!["least slot length: any will do, since there is no entry".to_string()];
+        return Vec::new();
     };
     let Longest {
         entry,

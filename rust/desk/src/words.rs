@@ -22,7 +22,7 @@ const fn row(number: u8, about: &'static str, means: &'static str, to_do: &'stat
     }
 }
 
-pub const VERDICTS: [Row; 15] = [
+pub const VERDICTS: [Row; 16] = [
     row(
         0,
         "devices links paths entries",
@@ -112,6 +112,12 @@ pub const VERDICTS: [Row; 15] = [
         "slot, two initiators, link",
         "in this slot both may be using this link",
         "move one of the two, or take the targets apart that share the link",
+    ),
+    row(
+        15,
+        "file length",
+        "the plan has no entry: nobody may ever start, and the network would stay silent",
+        "the table of slots is missing; do not hand the box out, ask the team for the whole plan",
     ),
 ];
 

@@ -107,12 +107,22 @@ fn lines_of_another_system() {
     let ran = run(
         COMPILE,
         &["-"],
-        b"\xef\xbb\xbfnode 1\r\nintervals 90 110\r\n",
+        b"\xef\xbb\xbfnode 1\r\nnode 2\r\nlink 0 1 2\r\npath 1 2 0\r\nentry 1 0 1 2\r\nintervals 90 110\r\n",
     );
-    assert_eq!(ran.out, [1, 0, 2, 1, 0, 5, 0, 8, 0, 0, 0, 90, 0, 0, 0, 110]);
+    #[rustfmt::skip]
+    let file = [
+        1, 0, 2, 1, 0,
+        1, 0, 2, 2, 0,
+        2, 0, 3, 0, 1, 2,
+        3, 0, 3, 1, 2, 0,
+        4, 0, 4, 1, 0, 1, 2,
+        5, 0, 8, 0, 0, 0, 90, 0, 0, 0, 110,
+    ];
+    assert_eq!(ran.out, file);
+    assert_eq!(ran.out, bytes("plans/smallest.plan"));
     assert_eq!(
         ran.err,
-        "standard input: ACCEPTED 1 0 0 0: devices 1, links 0, paths 0, entries 0\n"
+        "standard input: ACCEPTED 2 1 1 1: devices 2, links 1, paths 1, entries 1\n"
     );
     assert_eq!(ran.status, 0);
 }
@@ -196,6 +206,11 @@ fn refused_with_its_line() {
             "compile/sample-first-clash.txt",
         ),
         ("plans/sample-empty.plan", "compile/sample-empty.txt"),
+        (
+            "plans/sample-intervals.plan",
+            "compile/sample-intervals.txt",
+        ),
+        ("plans/no-entry.plan", "compile/no-entry.txt"),
     ] {
         let ran = run(COMPILE, &[plan], b"");
         assert_eq!(ran.err, expected(stored), "{plan}");

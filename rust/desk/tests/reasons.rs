@@ -5,6 +5,7 @@ mod common;
 use common::{bytes, plans, Chance};
 use desk::judge::judge;
 use desk::page::page;
+use desk::plan::Plan;
 use desk::source::Source;
 use spwd::{Fault, Verdict};
 use std::collections::BTreeSet;
@@ -56,6 +57,10 @@ fn explained(file: &[u8], verdict: &Verdict, lines: &[String]) {
             number: Verdict::FILE_TOO_LONG | Verdict::NO_INTERVALS,
             ..
         }) => assert!(behind.is_empty()),
+        Verdict::Refused(Fault::File {
+            number: Verdict::NO_ENTRY,
+            ..
+        }) => no_entry(&Plan::of(file), behind),
         Verdict::Refused(Fault::File { place, .. }) => {
             assert!(behind[0].starts_with(&format!("the field at offset {place}: ")));
             let field = desk::fields::fields(file)
@@ -85,6 +90,20 @@ fn explained(file: &[u8], verdict: &Verdict, lines: &[String]) {
     }
 }
 
+/// How many of each the plan has, then every initiator.
+fn no_entry(plan: &Plan, behind: &[String]) {
+    let (devices, links, paths) = (plan.devices.len(), plan.links.len(), plan.paths.len());
+    let counts = format!("devices {devices}, links {links}, paths {paths}, entries 0: ");
+    assert!(behind[0].starts_with(&counts), "{behind:?}");
+    for initiator in plan.initiators() {
+        let head = format!("  initiator {initiator}: no entry; paths to ");
+        assert!(
+            behind.iter().any(|line| line.starts_with(&head)),
+            "{behind:?}"
+        );
+    }
+}
+
 #[test]
 fn every_refusal_is_explained() {
     let mut whole: Vec<_> = plans("plans").iter().map(|plan| bytes(plan)).collect();
@@ -95,7 +114,7 @@ fn every_refusal_is_explained() {
     let alone = desk::form::compile(b"intervals 90 110\ntimes 200 0 0 0 0 30000");
     whole.push(alone.unwrap().bytes);
     let mut chance = Chance(0x5eed_0003);
-    let mut seen = [0; 15];
+    let mut seen = [0; 16];
     let mut of_times = BTreeSet::new();
     for _ in 0..20_000 {
         let plan = &whole[chance.below(whole.len())];
@@ -119,7 +138,7 @@ fn every_refusal_is_explained() {
     );
 }
 
-/// A star of 8 initiators and 16 further nodes, each initiator with a path to each of these.
+/// A star of 8 initiators and 16 further nodes, each initiator with a path to each of these, and one entry.
 fn many_paths() -> Vec<u8> {
     let mut text = String::new();
     for node in 0..24 {
@@ -134,8 +153,8 @@ fn many_paths() -> Vec<u8> {
             text += &format!("path {initiator} {target} {initiator} {target}\n");
         }
     }
-    text += "intervals 90 110\n";
+    text += "entry 0 0 1 8\nintervals 90 110\n";
     let file = desk::form::compile(text.as_bytes()).unwrap().bytes;
-    assert_eq!(judge(&file).verdict.to_string(), "ACCEPTED 25 24 128 0");
+    assert_eq!(judge(&file).verdict.to_string(), "ACCEPTED 25 24 128 1");
     file
 }

@@ -73,21 +73,17 @@ fn out_of_range() {
     assert_eq!(by_itself("0", "2", &["0"]).status, 0);
 }
 
-/// Plans with slot times, one without, and some tried on them: too short a slot, a rate for which 1 ms is too short.
+/// Plans with slot times, some without, and times tried on them: too short a slot, a rate for which 1 ms is too short.
 #[test]
 fn plans_of_the_project() {
     prints(&["plans/times.plan"], "sheet/times.txt", 0);
     prints(&["plans/times-never.plan"], "sheet/times-never.txt", 0);
     prints(&["plans/guide.plan"], "sheet/without-times.txt", 0);
-    prints(&["plans/sample-intervals.plan"], "sheet/nothing.txt", 0);
+    prints(&["plans/smallest.plan"], "sheet/smallest.txt", 0);
     let given = |plan| [&TIMES[..], &[plan]].concat();
     prints(&given("plans/astro-h.plan"), "sheet/given-astro-h.txt", 0);
     prints(&given("plans/times.plan"), "sheet/given-times.txt", 0);
-    prints(
-        &given("plans/sample-intervals.plan"),
-        "sheet/given-nothing.txt",
-        0,
-    );
+    prints(&given("plans/smallest.plan"), "sheet/given-smallest.txt", 0);
     let slow = "--times 2 5000 5000 5000 5000 1000000 plans/guide.plan";
     prints(&slow.split(' ').collect::<Vec<_>>(), "sheet/slow.txt", 0);
     let wrong = "--times 401 0 1000001 0 0 1000001 plans/times.plan";
@@ -115,6 +111,16 @@ fn refused_plans() {
         }
     }
     assert!(count > 20, "{count}");
+}
+
+/// A plan with no entry has paths whose times could be said, but it is no plan for the box.
+#[test]
+fn no_entry() {
+    for name in ["no-entry", "no-entry-times", "sample-intervals"] {
+        let (plan, page) = (format!("plans/{name}.plan"), format!("show/{name}.txt"));
+        prints(&[&plan], &page, 2);
+        prints(&[&TIMES[..], &[&plan]].concat(), &page, 2);
+    }
 }
 
 /// From a file or standard input, as text or bytes, as for `spwd-show`.
@@ -329,6 +335,9 @@ fn width() {
     };
     for plan in plans("plans") {
         let held = judge(&bytes(&plan)).held;
+        if held.is_empty() {
+            continue;
+        }
         let own = of_plan(&Plan::of(&held), true);
         assert!(own.iter().all(|line| line.len() <= 80), "{plan}: {own:?}");
         for (rate, slot_length) in [(2, SLOT_LENGTH_MOST), (400, SLOT_LENGTH_MOST), (400, 0)] {

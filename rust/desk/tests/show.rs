@@ -20,7 +20,7 @@ fn shows(plan: &str, stored: &str) {
 fn plans_of_the_project() {
     for name in [
         "sample-first",
-        "sample-intervals",
+        "smallest",
         "astro-h",
         "figure-21-t3",
         "sample-over-63",
@@ -32,6 +32,9 @@ fn plans_of_the_project() {
         "sample-tag-6",
         "sample-intervals-twice",
         "sample-empty",
+        "sample-intervals",
+        "no-entry",
+        "no-entry-times",
         "times",
         "times-never",
     ] {
@@ -39,7 +42,7 @@ fn plans_of_the_project() {
     }
 }
 
-/// Spans over the ends of blocks and over slot 63, and a plan for each of the verdicts 2 to 12 that the project's plans do not get.
+/// Spans over the ends of blocks and over slot 63, and plans for verdicts that the project's plans do not get, or get in one way alone.
 #[test]
 fn plans_of_these_tests() {
     for plan in plans("rust/desk/tests/plans") {
@@ -81,6 +84,36 @@ fn from_bytes() {
         assert_eq!(ran.text(), page, "{plan}");
         assert_eq!(ran.err, "", "{plan}");
     }
+}
+
+/// Where entries belong is an offset then.
+#[test]
+fn no_entry_from_bytes() {
+    for (name, timing) in [
+        ("no-entry", 90),
+        ("no-entry-times", 90),
+        ("sample-intervals", 0),
+    ] {
+        let ran = run(SHOW, &[], &bytes(&format!("plans/{name}.plan")));
+        let page = expected(&format!("show/{name}.txt"));
+        let (page, _) = page.split_once(" at line ").unwrap();
+        assert_eq!(ran.text(), format!("{page} at offset {timing}\n"));
+        assert_eq!((ran.err.as_str(), ran.status), ("", 2));
+    }
+}
+
+/// The one initiator of a star with all other nodes as its targets.
+#[test]
+fn no_entry_and_many_targets() {
+    let mut text = String::new();
+    (0..63).for_each(|node| text += &format!("node {node}\n"));
+    text += "router 63\n";
+    (0..63).for_each(|node| text += &format!("link {node} {node} 63\n"));
+    (1..63).for_each(|target| text += &format!("path 0 {target} 0 {target}\n"));
+    text += "intervals 90 110\n";
+    let ran = run(SHOW, &["--text"], text.as_bytes());
+    assert_eq!(ran.text(), expected("show/no-entry-star.txt"));
+    assert_eq!((ran.err.as_str(), ran.status), ("", 2));
 }
 
 #[test]

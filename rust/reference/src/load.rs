@@ -118,6 +118,9 @@ impl Judge<'_> {
         if !self.has_intervals() {
             return Err(Refused::at(rest, Fault::NoIntervals));
         }
+        if !self.has_entry() {
+            return Err(Refused::at(rest, Fault::NoEntry));
+        }
         Ok(())
     }
 
@@ -138,6 +141,10 @@ impl Judge<'_> {
 
     fn has_intervals(&self) -> bool {
         self.plan.greatest != 0
+    }
+
+    fn has_entry(&self) -> bool {
+        self.plan.slots != [0; INITIATORS]
     }
 
     #[inline(always)]

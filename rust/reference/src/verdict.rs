@@ -16,6 +16,7 @@ pub enum Fault {
     NoWalk = 10,
     NoPath = 11,
     NoIntervals = 12,
+    NoEntry = 15,
 }
 
 #[derive(Clone, Copy, Debug, PartialEq, Eq)]
@@ -26,7 +27,7 @@ pub enum Verdict {
         paths: u8,
         entries: u16,
     },
-    /// Verdicts 1 to 12.
+    /// Verdicts 1 to 12, and 15.
     Refused { fault: Fault, place: u16 },
     /// Verdict 13: the entry that covers the slot of another one.
     Overlap { initiator: u8, slot: u8 },
@@ -40,7 +41,7 @@ pub enum Verdict {
 }
 
 impl Verdict {
-    /// The verdict's number, 0 to 14.
+    /// The verdict's number, 0 to 15.
     pub const fn number(&self) -> u8 {
         match self {
             Self::Accepted { .. } => 0,

@@ -3,7 +3,8 @@
 mod common;
 
 use common::{
-    device, entry, first_plan, intervals, link, path, plan_a, row_plan, usual_times, Driver,
+    device, entry, first_plan, intervals, least_plan, link, path, plan_a, row_plan, usual_times,
+    Driver,
 };
 use reference::{Answer, Watchdog};
 
@@ -378,8 +379,7 @@ fn the_five_numbers_are_taken_as_lent() {
 
 #[test]
 fn least_0_is_never_early() {
-    let file = [intervals(0, 1)].concat();
-    let mut driver = Driver::new(&file);
+    let mut driver = Driver::new(&least_plan(0, 1));
     driver.time_code(0, 9);
     assert_eq!(driver.time_code(1, 9), NONE);
     assert_eq!(driver.time_code(2, 10), NONE);

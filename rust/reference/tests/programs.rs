@@ -2,7 +2,7 @@
 
 mod common;
 
-use common::{entry, first_plan, intervals, plan_a, row_plan, usual_times, Driver};
+use common::{entry, first_plan, intervals, least_plan, plan_a, row_plan, usual_times, Driver};
 use std::io::{BufRead, BufReader, Write};
 use std::process::{Command, Stdio};
 
@@ -53,6 +53,8 @@ fn verdict_program() {
     assert_eq!(run(VERDICT, &[6; 16_384]), "REFUSED 5 0\n");
     assert_eq!(run(VERDICT, &[6; 16_385]), "REFUSED 1 0\n");
     assert_eq!(run(VERDICT, &[6; 200_000]), "REFUSED 1 0\n");
+    assert_eq!(run(VERDICT, &intervals(90, 110)), "REFUSED 15 11\n");
+    assert_eq!(run(VERDICT, &plan_a(&[])), "REFUSED 15 101\n");
     let clash = plan_a(&[entry(1, 63, 2, &[3]), entry(2, 0, 1, &[3])]);
     assert_eq!(run(VERDICT, &clash), "REFUSED 14 0 1 2 2\n");
     let timed = [first_plan(), usual_times(0)].concat();
@@ -61,16 +63,21 @@ fn verdict_program() {
 
 #[test]
 fn the_page_s_example() {
+    let smallest =
+        "01000201000100020200020003000102030003010200040004010001020500080000005a0000006e";
     replay(&[
-        ("load 0500080000005a0000006e", "ACCEPTED 0 0 0 0"),
+        ("load 0500080000005a0000006e", "REFUSED 15 11"),
+        (&format!("load {smallest}"), "ACCEPTED 2 1 1 1"),
         ("tc 0 1000 136", "0 0 -"),
         ("clk 1111", "0 1"),
+        ("sheet 4 200 256 5000 5000 5000 5000", "0 39450"),
     ]);
 }
 
 #[test]
 fn every_command() {
     let load = format!("load {}", hex(&first_plan()));
+    let no_entry = format!("load {}", hex(&plan_a(&[])));
     let canonical = Driver::new(&first_plan()).written_out();
     let size = canonical.len();
     let out = format!("0 {size} {}", hex(&canonical));
@@ -114,6 +121,13 @@ fn every_command() {
         ("clear", "CLEARED"),
         ("wd", "0 0 0 0 0"),
         ("clk 1", "20 0"),
+        (&load, "ACCEPTED 6 5 4 2"),
+        ("req 1 3 0 100", "0 0"),
+        (&no_entry, "REFUSED 15 101"),
+        ("wd", "0 0 0 0 0"),
+        ("tc 0 1000 136", "20 0 -"),
+        ("req 1 3 0 100", "20 0"),
+        ("out 32768", "20 0 -"),
     ]);
 }
 
@@ -225,9 +239,9 @@ fn what_is_no_command() {
         "clk\t1",
         " ",
     ];
-    let load = format!("load {}", hex(&intervals(90, 110)));
+    let load = format!("load {}", hex(&least_plan(90, 110)));
     let mut script = vec![
-        (load, "ACCEPTED 0 0 0 0".to_owned()),
+        (load, "ACCEPTED 2 1 1 1".to_owned()),
         ("setwd 1 1 0 3 4".to_owned(), "OK".to_owned()),
     ];
     for (index, line) in lines.iter().enumerate() {

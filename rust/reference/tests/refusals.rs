@@ -42,6 +42,14 @@ fn driver() -> Driver {
     driver
 }
 
+/// The same after a load with this verdict.
+fn after_refused(number: u8, file: &[u8]) -> Driver {
+    let mut driver = driver();
+    let verdict = driver.unit.load(file, &mut driver.watchdog);
+    assert_eq!(verdict.number(), number);
+    driver
+}
+
 #[test]
 fn refusal_20_no_plan() {
     let events = [
@@ -52,9 +60,14 @@ fn refusal_20_no_plan() {
     ];
     let mut cleared = driver();
     cleared.unit.clear(&mut cleared.watchdog);
-    let mut refused = driver();
-    refused.unit.load(&[], &mut refused.watchdog);
-    for mut driver in [Driver::cleared(), cleared, refused] {
+    let timed = [plan_a(&[]), usual_times(39_450)].concat();
+    for mut driver in [
+        Driver::cleared(),
+        cleared,
+        after_refused(12, &[]),
+        after_refused(15, &plan_a(&[])),
+        after_refused(15, &timed),
+    ] {
         assert_eq!(driver.unit, Unit::new());
         assert_eq!(driver.watchdog, Watchdog::new());
         for event in events {
@@ -265,7 +278,7 @@ fn refusals_27_and_28() {
 fn refusal_29_small_buffer() {
     for buffer in 0..136 {
         driver().refuses(time_code(1), buffer, Refusal::SmallBuffer);
-        let mut quiet = Driver::new(&plan_a(&[]));
+        let mut quiet = Driver::new(&first_plan());
         quiet.refuses(time_code(0), buffer, Refusal::SmallBuffer);
     }
     for buffer in 136..300 {

@@ -28,13 +28,10 @@ fn printed_verdicts() {
             "REFUSED 13 1 63",
         ),
         (vec![], "REFUSED 12 0"),
-        (
-            vec![5, 0, 8, 0, 0, 0, 0x5a, 0, 0, 0, 0x6e],
-            "ACCEPTED 0 0 0 0",
-        ),
+        (vec![5, 0, 8, 0, 0, 0, 0x5a, 0, 0, 0, 0x6e], "REFUSED 15 11"),
         (twice, "REFUSED 4 11"),
         (vec![6, 0, 0], "REFUSED 5 0"),
-        (plan_a(&[]), "ACCEPTED 6 5 4 0"),
+        (plan_a(&[]), "REFUSED 15 101"),
     ];
     for (file, expected) in samples {
         assert_eq!(verdict(&file), expected);

@@ -3,8 +3,8 @@
 mod common;
 
 use common::{
-    device, entry, field, first_plan, intervals, link, path, plan_a, plan_a_network, row_plan,
-    split, times, usual_times, verdict,
+    device, entry, field, first_plan, intervals, least_network, least_plan, link, path, plan_a,
+    plan_a_network, row_network, row_plan, split, times, usual_times, verdict,
 };
 
 /// Devices 1 and 2 are nodes, 10 a router.
@@ -27,8 +27,20 @@ fn after(before: &[u8], field: &[u8]) -> String {
     verdict(&[before, field, &intervals(90, 110)].concat())
 }
 
+/// The fields of this file, and if there is no entry among them those of `least_network`, each in the
+/// place of its tag.
+fn with_an_entry(file: &[u8]) -> Vec<u8> {
+    let mut fields = split(file);
+    if fields.iter().all(|field| field[0] != 4) {
+        fields.extend(least_network());
+        fields.sort_by_key(|field| field[0]);
+    }
+    fields.concat()
+}
+
 fn assert_accepted(before: &[u8], field: &[u8]) {
-    let printed = after(before, field);
+    let file = with_an_entry(&[before, field].concat());
+    let printed = after(&file, &[]);
     assert!(printed.starts_with("ACCEPTED "), "{printed}: {field:?}");
 }
 
@@ -97,19 +109,21 @@ fn verdict_4_tag_order() {
         for greater in &tags[index.max(2) + 1..] {
             assert_fault(4, &[paths(), greater.clone()].concat(), field);
         }
-        let whole = plan_a(&[]);
-        let late = [&whole[..], field].concat();
-        assert_eq!(verdict(&late), format!("REFUSED 4 {}", whole.len()));
+        for whole in [first_plan(), plan_a(&[])] {
+            let late = [&whole[..], field].concat();
+            assert_eq!(verdict(&late), format!("REFUSED 4 {}", whole.len()));
+        }
     }
-    let whole = plan_a(&[]);
-    let second = [&whole[..], &field(5, &[])].concat();
-    assert_eq!(verdict(&second), format!("REFUSED 4 {}", whole.len()));
+    for whole in [first_plan(), plan_a(&[])] {
+        let second = [&whole[..], &field(5, &[])].concat();
+        assert_eq!(verdict(&second), format!("REFUSED 4 {}", whole.len()));
+    }
 }
 
 #[test]
 fn verdict_4_times() {
-    let timed = [plan_a(&[]), usual_times(39_450)].concat();
-    assert_eq!(verdict(&timed), "ACCEPTED 6 5 4 0");
+    let timed = [first_plan(), usual_times(39_450)].concat();
+    assert_eq!(verdict(&timed), "ACCEPTED 6 5 4 2");
     // A second one, whatever it holds, and every tag below.
     for late in [
         usual_times(39_450),
@@ -218,8 +232,10 @@ fn verdict_6_entries() {
 fn verdict_6_intervals() {
     let top = 2_147_483_647;
     for (least, greatest) in [(0, 1), (1, 1), (0, top), (top, top)] {
-        assert_eq!(verdict(&intervals(least, greatest)), "ACCEPTED 0 0 0 0");
+        assert_eq!(verdict(&least_plan(least, greatest)), "ACCEPTED 2 1 1 1");
+        assert_eq!(verdict(&intervals(least, greatest)), "REFUSED 15 11");
     }
+    let place = least_network().concat().len();
     for (least, greatest) in [
         (0, 0),
         (2, 1),
@@ -229,6 +245,8 @@ fn verdict_6_intervals() {
         (0, u32::MAX),
         (u32::MAX, top),
     ] {
+        let printed = verdict(&least_plan(least, greatest));
+        assert_eq!(printed, format!("REFUSED 6 {place}"));
         assert_eq!(verdict(&intervals(least, greatest)), "REFUSED 6 0");
     }
 }
@@ -296,6 +314,7 @@ fn times_spare_no_later_verdict() {
         // A target that no length fits counts in a clash all the same.
         assert_eq!(timed(&clash), "REFUSED 14 1 1 2 2");
         assert_eq!(timed(&clash[..1]), "ACCEPTED 6 5 4 1");
+        assert_eq!(timed(&[]), "REFUSED 15 126");
         let all: Vec<u8> = (1..9).collect();
         let file = row_plan(&[entry(0, 0, 1, &all)], &usual_times(slot_length));
         assert_eq!(verdict(&file), "ACCEPTED 16 15 8 1");
@@ -371,9 +390,12 @@ fn verdict_9_ninth_initiator() {
     for initiator in [8, 3, 5, 1, 20, 7, 2] {
         file.extend(path(initiator, 0, &[initiator]));
     }
-    assert_accepted(&file, &path(4, 0, &[4]));
+    // The path of `least_network` would make an initiator more.
+    let entry = entry(20, 0, 1, &[0]);
+    let accepted = |file: &[u8], path| after(file, &[path, entry.clone()].concat());
+    assert_eq!(accepted(&file, path(4, 0, &[4])), "ACCEPTED 22 40 8 1");
     file.extend(path(4, 0, &[4]));
-    assert_accepted(&file, &path(4, 21, &[24]));
+    assert_eq!(accepted(&file, path(4, 21, &[24])), "ACCEPTED 22 40 9 1");
     assert_fault(9, &file, &path(6, 0, &[6]));
     assert_fault(9, &file, &path(6, 0, &[7]));
     assert_fault(8, &file, &path(6, 0, &[60]));
@@ -393,9 +415,10 @@ fn verdict_9_129th_path() {
     for initiator in 0..7 {
         file.extend(path(initiator, 24, &[initiator, 24]));
     }
-    assert_accepted(&file, &path(7, 24, &[7, 24]));
+    let entry = entry(3, 0, 1, &[24]);
+    assert_eq!(after(&file, &entry), "ACCEPTED 33 32 127 1");
     file.extend(path(7, 24, &[7, 24]));
-    assert_accepted(&file, &[]);
+    assert_eq!(after(&file, &entry), "ACCEPTED 33 32 128 1");
     assert_fault(9, &file, &path(7, 25, &[7, 25]));
     assert_fault(9, &file, &path(7, 25, &[7]));
     assert_fault(9, &file, &path(30, 25, &[30, 25]));
@@ -475,6 +498,83 @@ fn verdict_12_no_intervals() {
     let timed = [&file[..size], &usual_times(39_450)].concat();
     assert_eq!(verdict(&timed), format!("REFUSED 12 {}", size + 25));
     assert_eq!(verdict(&usual_times(39_450)), "REFUSED 12 25");
+}
+
+#[test]
+fn verdict_15_no_entry() {
+    let network = plan_a_network().concat();
+    for fields in [vec![], devices(), links(), paths(), network, row_network()] {
+        let plain = [fields, intervals(90, 110)].concat();
+        assert_eq!(verdict(&plain), format!("REFUSED 15 {}", plain.len()));
+        for slot_length in [0, 39_450, 1_000_000] {
+            let timed = [&plain[..], &usual_times(slot_length)].concat();
+            assert_eq!(verdict(&timed), format!("REFUSED 15 {}", timed.len()));
+        }
+    }
+}
+
+#[test]
+fn verdict_15_after_12() {
+    for fields in [vec![], paths(), plan_a_network().concat()] {
+        for times in [vec![], usual_times(39_450)] {
+            let neither = [&fields[..], &times].concat();
+            assert_eq!(verdict(&neither), format!("REFUSED 12 {}", neither.len()));
+            let five = intervals(90, 110);
+            let no_entry = [&fields[..], &five, &times].concat();
+            assert_eq!(verdict(&no_entry), format!("REFUSED 15 {}", no_entry.len()));
+        }
+    }
+}
+
+#[test]
+fn verdict_15_after_the_fields() {
+    let whole = plan_a(&[]);
+    for (number, late) in [
+        (2, vec![4]),
+        (2, vec![4, 0, 4, 1, 0, 1]),
+        (3, field(7, &[])),
+        (4, intervals(90, 110)),
+        (4, entry(1, 0, 1, &[3])),
+        (5, field(6, &[])),
+        (6, usual_times(1_000_001)),
+    ] {
+        let file = [&whole[..], &late].concat();
+        let expected = format!("REFUSED {number} {}", whole.len());
+        assert_eq!(verdict(&file), expected, "{late:?}");
+    }
+    // An entry at fault is named itself.
+    assert_fault(11, &plan_a_network().concat(), &entry(1, 0, 1, &[2]));
+}
+
+#[test]
+fn one_entry_is_enough() {
+    let mut network = star();
+    let initiators = [8, 3, 5, 1, 20, 7, 2, 4];
+    for initiator in initiators {
+        network.extend(path(initiator, 0, &[initiator]));
+    }
+    let size = network.len() + 11;
+    assert_eq!(after(&network, &[]), format!("REFUSED 15 {size}"));
+    for initiator in initiators {
+        for slot in 0..64 {
+            for span in [1, 16] {
+                let entry = entry(initiator, slot, span, &[0]);
+                assert_eq!(after(&network, &entry), "ACCEPTED 22 40 8 1");
+            }
+        }
+    }
+}
+
+#[test]
+fn an_entry_that_permits_nothing_is_one() {
+    let all: Vec<u8> = (1..9).collect();
+    for slot_length in [0, 1, 1_000] {
+        let times = usual_times(slot_length);
+        let file = row_plan(&[entry(0, 63, 16, &all)], &times);
+        assert_eq!(verdict(&file), "ACCEPTED 16 15 8 1");
+        let file = row_plan(&[], &times);
+        assert_eq!(verdict(&file), format!("REFUSED 15 {}", file.len()));
+    }
 }
 
 #[test]

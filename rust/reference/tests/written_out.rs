@@ -4,8 +4,8 @@ mod common;
 
 use common::model::ModelPlan;
 use common::{
-    device, entry, first_plan, intervals, link, path, plan_a, row_plan, split, times, usual_times,
-    Driver, Random,
+    device, entry, first_plan, intervals, least_plan, link, path, plan_a, row_plan, split, times,
+    usual_times, Driver, Random,
 };
 use reference::{Unit, WRITTEN_OUT};
 
@@ -147,7 +147,14 @@ fn as_long_as_its_file() {
     // intervals and times.
     const { assert!(64 * 5 + 64 * 6 + 128 * 13 + 512 * 22 + 11 + 25 <= WRITTEN_OUT) };
     let timed = [full_plan(), usual_times(1)].concat();
-    for file in [first_plan(), full_plan(), timed, plan_a(&[])] {
+    let one_entry = plan_a(&[entry(2, 63, 16, &[4, 3])]);
+    for file in [
+        first_plan(),
+        full_plan(),
+        timed,
+        one_entry,
+        least_plan(0, 1),
+    ] {
         assert_eq!(Driver::new(&file).written_out().len(), file.len());
     }
 }

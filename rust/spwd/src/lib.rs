@@ -49,7 +49,7 @@ pub use verdict::{Counts, Fault, Line, Verdict};
 pub use watchdog::Watchdog;
 
 /// The version of the interface that this crate is written for; `SPWD_VERSION` of `c/spwd.h`.
-pub const VERSION: u32 = 2;
+pub const VERSION: u32 = 3;
 
 /// Bytes of the longest plan file that is not refused for its length alone.
 pub const FILE_MOST: usize = 16_384;

@@ -21,11 +21,11 @@ pub struct Counts {
 #[must_use]
 #[derive(Clone, Copy, Debug, PartialEq, Eq)]
 pub enum Fault {
-    /// 1 to 12: the first fault of the file.
+    /// 1 to 12 and 15: the first fault of the file.
     File {
-        /// Which: [`Verdict::FILE_TOO_LONG`] to [`Verdict::NO_INTERVALS`].
+        /// Which: [`Verdict::FILE_TOO_LONG`] to [`Verdict::NO_INTERVALS`], or [`Verdict::NO_ENTRY`].
         number: u8,
-        /// 1: zero; 2 to 11: offset of the tag of the field at fault; 12: file length.
+        /// 1: zero; 2 to 11: offset of the tag of the field at fault; 12 and 15: file length.
         place: u16,
     },
     /// 13: an entry covers, after its own slot, the slot of another one of the same initiator.
@@ -49,7 +49,7 @@ pub enum Fault {
 }
 
 impl Fault {
-    /// Document 01's number, 1 to 14.
+    /// The verdict's number, 1 to 15.
     pub const fn number(&self) -> u8 {
         match self {
             Self::File { number, .. } => *number,
@@ -74,7 +74,7 @@ impl core::error::Error for Fault {}
 pub enum Verdict {
     /// 0: the box is under the plan.
     Accepted(Counts),
-    /// 1 to 14: there is no plan in the box.
+    /// 1 to 15: there is no plan in the box.
     Refused(Fault),
 }
 
@@ -109,8 +109,10 @@ impl Verdict {
     pub const OVERRUN: u8 = 13;
     /// The number of [`Fault::Clash`].
     pub const CLASH: u8 = 14;
+    /// There is no entry. Judged after [`Verdict::NO_INTERVALS`] and before [`Verdict::OVERRUN`].
+    pub const NO_ENTRY: u8 = 15;
 
-    /// Document 01's number, 0 to 14.
+    /// The verdict's number, 0 to 15.
     pub const fn number(&self) -> u8 {
         match self {
             Self::Accepted(_) => Self::ACCEPTED,

@@ -2,18 +2,8 @@
 
 mod common;
 
-use common::{fields, first, plan_a, under, INTERVALS};
-use spwd::{Plan, Refusal, Spwd, Watchdog, READ, RECORDS_ROOM, WRITTEN_MOST};
-
-/// A box with something in every part of it.
-fn busy() -> Spwd {
-    let mut spwd = under(&first());
-    assert_eq!(spwd.request(1, 3, READ, 1), Ok(0));
-    assert_eq!(spwd.request(1, 3, READ, 1), Ok(1));
-    assert_eq!(spwd.time_code(0, 1_000, &mut [0; RECORDS_ROOM]), Ok(1));
-    assert_eq!(spwd.reading(2_000), Ok(true));
-    spwd
-}
+use common::{busy, fields, first, plan_a, smallest, under};
+use spwd::{Plan, Refusal, Spwd, Watchdog, READ, WRITTEN_MOST};
 
 #[test]
 fn a_new_box_is_that_of_a_clear() {
@@ -58,8 +48,8 @@ fn a_refused_load_leaves_a_clear() {
 #[test]
 fn an_accepted_load_replaces_everything() {
     let mut spwd = busy();
-    assert!(spwd.load(&INTERVALS).is_ok());
-    assert_eq!(spwd, under(&INTERVALS));
+    assert!(spwd.load(&smallest()).is_ok());
+    assert_eq!(spwd, under(&smallest()));
     assert!(spwd.load(&first()).is_ok());
     assert_eq!(spwd, under(&first()));
     assert_eq!(spwd.request(1, 3, READ, 0), Ok(0));
@@ -100,7 +90,7 @@ fn a_plan_in_another_order() {
 
 #[test]
 fn the_plan_of_a_file() {
-    let mut other = under(&INTERVALS).plan().clone();
+    let mut other = under(&smallest()).plan().clone();
     let spwd = busy();
     assert!(spwd.holds(&first(), &mut other));
     assert_eq!(other, *spwd.plan());

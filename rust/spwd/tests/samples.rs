@@ -1,4 +1,4 @@
-//! The samples of document 01.
+//! The samples of document 01, as the change requests leave them.
 
 mod common;
 
@@ -34,7 +34,7 @@ fn verdicts_of_plan_a() {
 #[test]
 fn verdicts_of_small_files() {
     prints(&[], "REFUSED 12 0");
-    prints(&INTERVALS, "ACCEPTED 0 0 0 0");
+    prints(&INTERVALS, "REFUSED 15 11");
     prints(&INTERVALS.repeat(2), "REFUSED 4 11");
     prints(&[6, 0, 0], "REFUSED 5 0");
     prints(&[7, 0, 0], "REFUSED 3 0");
@@ -79,9 +79,15 @@ fn verdicts_as_types() {
     };
     assert_eq!(spwd.load(&INTERVALS.repeat(2)), Err(twice));
     assert_eq!(Verdict::Refused(twice).numbers(), [4, 11, 0, 0, 0]);
+    let no_entry = Fault::File {
+        number: Verdict::NO_ENTRY,
+        place: 11,
+    };
+    assert_eq!(spwd.load(&INTERVALS), Err(no_entry));
+    assert_eq!(Verdict::Refused(no_entry).numbers(), [15, 11, 0, 0, 0]);
     assert_eq!(
-        [twice, overrun, clash].map(|fault| fault.number()),
-        [4, 13, 14]
+        [twice, overrun, clash, no_entry].map(|fault| fault.number()),
+        [4, 13, 14, 15]
     );
     assert_eq!(clash.to_string(), "REFUSED 14 0 1 2 3");
     assert!(Verdict::from(Ok(counts)).is_accepted());

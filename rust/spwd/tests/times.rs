@@ -2,7 +2,7 @@
 
 mod common;
 
-use common::{field, first, plan_a, times, under, INTERVALS};
+use common::{field, first, plan_a, smallest, times, under, INTERVALS};
 use spwd::{records, Plan, Record, Refusal, Spwd, Verdict};
 use spwd::{LATENCY_MOST, LENGTH_MOST, RATE_LEAST, RATE_MOST, READ, RECORDS_ROOM};
 use spwd::{SLOT_LENGTH_MOST, WRITE, WRITTEN_MOST};
@@ -142,12 +142,12 @@ fn bounds_of_the_numbers() {
             ),
         };
         for number in good {
-            let file = [&INTERVALS[..], &numbered(place, number)].concat();
-            prints(&file, "ACCEPTED 0 0 0 0");
+            let file = [smallest(), numbered(place, number)].concat();
+            prints(&file, "ACCEPTED 2 1 1 1");
         }
         for number in bad {
-            let file = [&INTERVALS[..], &numbered(place, number)].concat();
-            prints(&file, "REFUSED 6 11");
+            let file = [smallest(), numbered(place, number)].concat();
+            prints(&file, "REFUSED 6 40");
         }
     }
 }

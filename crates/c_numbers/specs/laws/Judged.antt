@@ -1,7 +1,7 @@
--- A verdict on a file can be told from its numbers: none of them is cut, and a fault of a field is neither 0 nor 13 nor 14.
+-- A verdict on a file can be told from its numbers: none of them is cut, and the number of a fault in the file is neither 0 nor 13 nor 14.
 use mathlib.Core.Path.{_≡_, refl, sym, ap, _∙_}
 use mathlib.Core.Logic.{_≢_}
-use mathlib.Core.List.{List, [], _∷_, cons≢nil}
+use mathlib.Core.List.{List}
 use mathlib.Core.Option.{Option, none, some}
 use mathlib.Core.Bool.{Bool, true, false, _&&_}
 use Prim.Native.Nat.{ℕ, _≤_, _<_}
@@ -14,29 +14,29 @@ use Rattle.lists.specs.laws.Bools.{none-some, when-some}
 use Rattle.lists.specs.laws.Search.{least-first}
 use Rattle.rules_plan.specs.declared.Verdict.{Verdict}
 use Rattle.rules_plan.specs.declared.Verdict.the-variants.{Accepted, Faulty, Overrun, Clash}
-use Rattle.rules_plan.specs.Plan.{Timing, Entry, Plan, blank}
+use Rattle.rules_plan.specs.Plan.{Entry, Plan, blank}
 use Rattle.rules_plan.specs.Meaning.{isAtWork}
 use Rattle.rules_plan.specs.Verdict.{number, place}
 use Rattle.rules_plan.specs.Judge.{Reading, plan, fault, readFile, overrunAt, overrunOf, overrun, clashOn, clashWith, clashOf, clashIn, clash, counts, judge}
 use Rattle.rules_plan.specs.laws.Faults.{read-fault}
-use Rattle.rules_plan.specs.laws.Whole.{Clean, clean-counts}
+use Rattle.rules_plan.specs.laws.Whole.{Clean}
 use Rattle.rules_plan.specs.laws.Accepted.{clean-good}
 use Rattle.rules_plan.specs.laws.Size.{most-devices, most-links, most-entries}
-use Rattle.rules_plan.specs.laws.Verdicts.{too-long, field-faulty, without-timing, with-overrun, with-clash}
+use Rattle.rules_plan.specs.laws.Verdicts.{Decided, by-12, by-15, by-13, by-14, by-none, too-long, field-faulty, decided}
 use Rattle.c_numbers.specs.Numbers.{verdictNumbers, verdictOf}
 use Rattle.c_numbers.specs.laws.Verdicts.{accepted, overran, clashed, faulty}
 
 -- its numbers have the widths that a verdict has for them
 unfoldable Narrow : Verdict → Type 0
 Narrow (Accepted d l p e) = (d < 256) × (l < 256) × (p < 256) × (e < 65_536)
-Narrow (Faulty n at) = (0 < n) × (n < 13) × (at < 65_536)
+Narrow (Faulty n at) = (n ≢ 0) × (n ≢ 13) × (n ≢ 14) × (n < 256) × (at < 65_536)
 Narrow (Overrun i s) = (i < 256) × (s < 256)
 Narrow (Clash s i j l) = (s < 256) × (i < 256) × (j < 256) × (l < 256)
 
 narrow-back : (v : Verdict) → Narrow v → verdictOf (verdictNumbers v) ≡ v
 unfolding Narrow verdictNumbers padded number place
 narrow-back (Accepted d l p e) (a, b, c, f) = sym (accepted (verdictNumbers (Accepted d l p e)) refl (omega arith) (omega arith) (omega arith) (omega arith))
-narrow-back (Faulty n at) (a, b, c) = sym (faulty (verdictNumbers (Faulty n at)) (λ e. omega arith) (λ e. omega arith) (λ e. omega arith) (omega arith) (omega arith))
+narrow-back (Faulty n at) (a, b, c, d, f) = sym (faulty (verdictNumbers (Faulty n at)) a b c (omega arith) (omega arith))
 narrow-back (Overrun i s) (a, b) = sym (overran (verdictNumbers (Overrun i s)) refl (omega arith) (omega arith))
 narrow-back (Clash s i j l) (a, b, c, f) = sym (clashed (verdictNumbers (Clash s i j l)) refl (omega arith) (omega arith) (omega arith) (omega arith))
 
@@ -90,29 +90,25 @@ module _ (s : List ℕ) where
 
   whole-narrow : length s ≤ 16_384 → (p : Plan) → readFile s ≡ plan p → Narrow (judge s)
   unfolding Narrow
-  whole-narrow short p reads = go (p .timings) refl
+  whole-narrow short p reads = go (decided s short p reads)
     where
-      timed : p .timings ≢ [] → (x : Option Verdict) → overrun (p .entries) ≡ x → (y : Option Verdict) → clash p (p .entries) ≡ y → Narrow (judge s)
-      timed t (some v) f y g = rw (with-overrun s short p reads t v f) (overrun-narrow p (p .entries) v f)
-      timed t none f (some v) g = rw (with-clash s short p reads t v f g) (clash-narrow p (p .entries) v g)
-      timed t none f none g =
-          let clean : Clean s p = record { short = short; reads = reads; timing = t; no-overrun = f; no-clash = g } in
-          rw (clean-counts s p clean) (counts-narrow p clean)
-
-      go : (ts : List Timing) → p .timings ≡ ts → Narrow (judge s)
-      go [] e = rw (without-timing s short p reads e) (omega arith, omega arith, omega arith)
-      go (t ∷ ts) e = timed (λ z. cons≢nil (sym e ∙ z)) (overrun (p .entries)) refl (clash p (p .entries)) refl
+      go : {v : Verdict} → Decided s p v → Narrow v
+      go (by-12 e) = (λ z. omega arith, λ z. omega arith, λ z. omega arith, omega arith, omega arith)
+      go (by-15 t e) = (λ z. omega arith, λ z. omega arith, λ z. omega arith, omega arith, omega arith)
+      go (by-13 c {v} f) = overrun-narrow p (p .entries) v f
+      go (by-14 c f {v} g) = clash-narrow p (p .entries) v g
+      go (by-none c f g) = counts-narrow p (record { short = short; reads = reads; complete = c; no-overrun = f; no-clash = g })
 
   judge-narrow : Narrow (judge s)
   unfolding readFile Narrow
   judge-narrow = go (ltb 16_384 (length s)) refl (readFile s) refl
     where
       go : (x : Bool) → ltb 16_384 (length s) ≡ x → (r : Reading) → readFile s ≡ r → Narrow (judge s)
-      go true e r f = rw (too-long s (ltb-true 16_384 (length s) e)) (omega arith, omega arith, omega arith)
+      go true e r f = rw (too-long s (ltb-true 16_384 (length s) e)) (λ z. omega arith, λ z. omega arith, λ z. omega arith, omega arith, omega arith)
       go false e (fault n at) f =
           let short = ltb-false 16_384 (length s) e in
           let h = read-fault (length s) s 0 0 blank n at f in
-          rw (field-faulty s short n at f) (h .0, h .1, omega (arith, h .2))
+          rw (field-faulty s short n at f) (λ z. omega (arith, h .0), λ z. omega (arith, h .1), λ z. omega (arith, h .1), omega (arith, h .1), omega (arith, h .2))
       go false e (plan p) f = whole-narrow (ltb-false 16_384 (length s) e) p f
 
   pub judged : {ns : List ℕ} → ns ≡ verdictNumbers (judge s) → verdictOf ns ≡ judge s

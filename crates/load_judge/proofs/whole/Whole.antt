@@ -1,10 +1,11 @@
--- What memory says of the whole plan that it holds: whether intervals were given, and what a search found.
+-- What memory says of the whole plan that it holds: whether intervals and entries were given, and what a search found.
 use mathlib.Core.Path.{_≡_, refl}
 use mathlib.Core.Logic.{_≢_}
 use mathlib.Core.List.{List, [], _∷_, List·Memᴰ·head}
 use mathlib.Core.Option.{Option, none, some}
 use Prim.Native.Nat.{ℕ, _≤_}
 use native.Mathlib.Omega.{arith}
+use lib.ListN.{length}
 use Rattle.rules_plan.specs.declared.Verdict.{Verdict}
 use Rattle.rules_plan.specs.Plan.{nth, Timing, Plan, timing}
 use Rattle.rules_plan.specs.Good.{Good}
@@ -16,6 +17,10 @@ use Rattle.rules_plan.specs.declared.Search.the-variants.{Nothing, Found}
 use Rattle.rules_plan.specs.Verdict.{searchOf}
 use Rattle.rules_plan.specs.Meaning.{greatestOf}
 use Rattle.memory_plan.specs.Memory.{numbersWith, numbersOf}
+
+none-counted : {A : Type 0} (xs : List A) → length xs ≡ 0 → xs ≡ []
+none-counted [] e = refl
+none-counted (x ∷ xs) e = absurd (omega (arith, e))
 
 -- the intervals: the greatest is 0 where there are none
 module _ (p : Plan) {w : List ℕ} (is : w ≡ numbersOf p) where
@@ -33,6 +38,15 @@ module _ (p : Plan) {w : List ℕ} (is : w ≡ numbersOf p) where
   pub with-them : nth w 1 ≢ 0 → p .timings ≢ []
   unfolding numbersWith greatestOf
   with-them h e = h (rw (is, e))
+
+  -- the entries, counted
+  pub without-entries : nth w 4 ≡ 0 → p .entries ≡ []
+  unfolding numbersWith
+  without-entries z = none-counted (p .entries) (rw is at z)
+
+  pub with-entries : nth w 4 ≢ 0 → p .entries ≢ []
+  unfolding numbersWith
+  with-entries h e = h (rw (is, e))
 
   -- the counts that it names are small
   pub few : Good p → (nth w 3 ≤ 128) × (nth w 4 ≤ 512)

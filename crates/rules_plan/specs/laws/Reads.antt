@@ -23,7 +23,10 @@ module _ (p : Plan) (good : Good p) where
   good-clean = record {
     short = good .short;
     reads = reads-back;
-    timing = λ e. let z : length (p .timings) ≡ 0 = rw e in absurd (omega (arith, good .timing));
+    complete = record {
+      timing = λ e. let z : length (p .timings) ≡ 0 = rw e in absurd (omega (arith, good .timing));
+      entry = λ e. let z : length (p .entries) ≡ 0 = rw e in absurd (omega (arith, good .some-entry));
+    };
     no-overrun = good .no-overrun;
     no-clash = good .no-clash;
   }

@@ -140,6 +140,7 @@ good-same {p} {q} s g = record {
   reached = same-each s _ _ false (same-noPath s) (g .reached);
   timing = rw (← s .timings) (g .timing);
   times = rw (← s .times) (g .times);
+  some-entry = rw (← shuffled-length (s .entries)) (g .some-entry);
   no-overrun = sym (same-overrun (s .entries)) ∙ g .no-overrun;
   no-clash = sym (same-clash (s .entries) s) ∙ g .no-clash;
 }

@@ -1,31 +1,32 @@
--- The verdict on a whole file: it is 0 exactly when the fields give a plan with a timing, without overrun and without clash.
-use mathlib.Core.Path.{_≡_, refl, sym, _∙_}
-use mathlib.Core.Logic.{_≢_}
-use mathlib.Core.List.{List, [], _∷_}
+-- The verdict on a whole file: it is 0 exactly when the fields give a plan with intervals and an entry, without overrun and without clash.
+use mathlib.Core.Path.{_≡_, refl}
+use mathlib.Core.List.{List}
 use mathlib.Core.Option.{Option, none, some}
 use mathlib.Core.Bool.{Bool, true, false, _&&_}
-use Prim.Native.Nat.{ℕ, suc, _≤_}
+use Prim.Native.Nat.{ℕ, _≤_}
 use native.Mathlib.Omega.{arith}
 use lib.ListN.{length}
 use lib.Dec.{ltb}
-use borrow.Author.Tests.{ltb-false, le-ltb}
-use Rattle.lists.specs.Search.{firstSome, least}
-use Rattle.lists.specs.laws.Bools.{none-some, some-some, when-some}
+use borrow.Author.Tests.{ltb-false}
+use Rattle.lists.specs.Search.{least}
+use Rattle.lists.specs.laws.Bools.{none-some, when-some}
 use Rattle.lists.specs.laws.Search.{least-first}
 use Rattle.rules_plan.specs.declared.Verdict.{Verdict}
-use Rattle.rules_plan.specs.declared.Verdict.the-variants.{Faulty, Overrun, Clash}
-use Rattle.rules_plan.specs.Plan.{Entry, Timing, Plan, blank}
+use Rattle.rules_plan.specs.declared.Verdict.the-variants.{Overrun, Clash}
+use Rattle.rules_plan.specs.Plan.{Entry, Plan, blank}
 use Rattle.rules_plan.specs.Verdict.{number}
 use Rattle.rules_plan.specs.Meaning.{isAtWork}
-use Rattle.rules_plan.specs.Judge.{Reading, plan, fault, readFile, noTiming, overrun, overrunOf, overrunAt, clash, clashIn, clashOf, clashWith, clashOn, counts, wholePlan, judge}
+use Rattle.rules_plan.specs.Judge.{Reading, plan, fault, readFile, overrun, overrunOf, overrunAt, clash, clashIn, clashOf, clashWith, clashOn, counts, wholePlan, judge}
 use Rattle.rules_plan.specs.Canon.{given}
+use Rattle.rules_plan.specs.Words.{Complete}
 use Rattle.rules_plan.specs.laws.Faults.{read-fault}
+use Rattle.rules_plan.specs.laws.Verdicts.{Decided, by-12, by-15, by-13, by-14, by-none, whole-decided, decides}
 
--- a file that gives the plan p and no verdict from 1 to 14
+-- a file that gives the plan p and no verdict from 1 to 15
 pub record Clean (s : List ℕ) (p : Plan) : Type 0 where
   pub short : length s ≤ 16_384
   pub reads : readFile s ≡ plan p
-  pub timing : p .timings ≢ []
+  pub complete : Complete p
   pub no-overrun : overrun (p .entries) ≡ none
   pub no-clash : clash p (p .entries) ≡ none
 
@@ -52,31 +53,16 @@ clash-number p es = found-least Is (clashIn p es) (λ s. found-least Is (clashOf
     in-slot s i false e v h = none-some (rw (e, clashOf) at h)
     in-slot s i true e v h = found-least Is (clashWith p es s i) (λ j. between s i j (ltb i j && isAtWork es s j) refl) v (rw (e, clashOf) at h)
 
-timing-number : (s : List ℕ) (p : Plan) (v : Verdict) → noTiming s p ≡ some v → number v ≡ 12
-unfolding noTiming number
-timing-number s p v h = go (p .timings) refl
-  where
-    go : (ts : List Timing) → p .timings ≡ ts → number v ≡ 12
-    go [] e = let g : some (Faulty 12 (length s)) ≡ some v = rw (e, noTiming) at h in rw (← (some-some g))
-    go (t ∷ ts) e = none-some (rw (e, noTiming) at h)
-
-no-timing : (s : List ℕ) (p : Plan) → noTiming s p ≡ none → p .timings ≢ []
-unfolding noTiming
-no-timing s p h e = none-some (sym (rw (e, noTiming) at h))
-
--- a verdict with the number 0 is none of the found ones
-first-none : (o : Option Verdict) (os : List (Option Verdict)) (d : Verdict) (n : ℕ) → ((v : Verdict) → o ≡ some v → number v ≡ suc n) → number (firstSome (o ∷ os) d) ≡ 0 → (o ≡ none) × (number (firstSome os d) ≡ 0)
-unfolding firstSome
-first-none none os d n f h = (refl, h)
-first-none (some v) os d n f h = absurd (omega (arith, f v refl))
-
 clean-whole : (s : List ℕ) (p : Plan) → length s ≤ 16_384 → readFile s ≡ plan p → number (wholePlan s p) ≡ 0 → Clean s p
-unfolding wholePlan
-clean-whole s p l r h =
-    let a = first-none (noTiming s p) (overrun (p .entries) ∷ clash p (p .entries) ∷ []) (counts p) 11 (timing-number s p) h in
-    let b = first-none (overrun (p .entries)) (clash p (p .entries) ∷ []) (counts p) 12 (overrun-number (p .entries)) (a .1) in
-    let c = first-none (clash p (p .entries)) [] (counts p) 13 (clash-number p (p .entries)) (b .1) in
-    record { short = l; reads = r; timing = no-timing s p (a .0); no-overrun = b .0; no-clash = c .0 }
+unfolding number
+clean-whole s p l r h = go (whole-decided s p) h
+  where
+    go : {v : Verdict} → Decided s p v → number v ≡ 0 → Clean s p
+    go (by-12 e) z = absurd (omega (arith, z))
+    go (by-15 t e) z = absurd (omega (arith, z))
+    go (by-13 c {v} o) z = absurd (omega (arith, z, overrun-number (p .entries) v o))
+    go (by-14 c n {v} o) z = absurd (omega (arith, z, clash-number p (p .entries) v o))
+    go (by-none c n m) z = record { short = l; reads = r; complete = c; no-overrun = n; no-clash = m }
 
 pub given-plan : (s : List ℕ) (p : Plan) → readFile s ≡ plan p → given s ≡ p
 unfolding given
@@ -94,9 +80,4 @@ accepted-clean s h = go (ltb 16_384 (length s)) refl (readFile s) refl
 
 -- a clean file is accepted, with the counts of its plan
 pub clean-counts : (s : List ℕ) (p : Plan) → Clean s p → judge s ≡ counts p
-unfolding judge wholePlan firstSome noTiming
-clean-counts s p c = rw (le-ltb 16_384 (length s) (c .short), judge, c .reads, c .no-overrun, c .no-clash) (go (p .timings) refl)
-  where
-    go : (ts : List Timing) → p .timings ≡ ts → firstSome (noTiming s p ∷ none ∷ none ∷ []) (counts p) ≡ counts p
-    go [] e = absurd (c .timing e)
-    go (t ∷ ts) e = rw (e, noTiming)
+clean-counts s p c = decides s (c .short) p (c .reads) (by-none (c .complete) (c .no-overrun) (c .no-clash))

@@ -74,6 +74,23 @@ pub fn first_plan() -> Vec<u8> {
     plan_a(&[entry(1, 0, 1, &[3]), entry(2, 0, 1, &[4])])
 }
 
+/// The least that an accepted plan has beside its intervals: nodes 40 and 41 with a link, a path and
+/// an entry.
+pub fn least_network() -> Vec<Vec<u8>> {
+    vec![
+        device(40, 0),
+        device(41, 0),
+        link(40, 40, 41),
+        path(40, 41, &[40]),
+        entry(40, 0, 1, &[41]),
+    ]
+}
+
+/// That network with these intervals.
+pub fn least_plan(least: u32, greatest: u32) -> Vec<u8> {
+    [least_network().concat(), intervals(least, greatest)].concat()
+}
+
 /// Nodes 0 to 8; routers 10 to 16 in a row, with links 10 to 15 between them; link 0 joins 0 and 10,
 /// link 8 joins 0 and 8, and link n joins node n, 1 to 7, to the router 9 + n. So n routers stand
 /// between 0 and n, and none between 0 and 8. The paths go from 0 to each.

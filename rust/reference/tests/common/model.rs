@@ -41,6 +41,9 @@ impl ModelPlan {
         if plan.intervals.is_none() {
             return Err((12, vec![file.len() as u32]));
         }
+        if plan.entries.is_empty() {
+            return Err((15, vec![file.len() as u32]));
+        }
         plan.overlap()?;
         plan.clash()?;
         Ok(plan)

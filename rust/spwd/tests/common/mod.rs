@@ -1,7 +1,7 @@
 //! Plan files for the tests.
 #![allow(dead_code)]
 
-use spwd::Spwd;
+use spwd::{Spwd, READ, RECORDS_ROOM};
 
 pub fn field(tag: u8, content: &[u8]) -> Vec<u8> {
     [&[tag, 0, content.len() as u8], content].concat()
@@ -44,18 +44,40 @@ pub fn first() -> Vec<u8> {
     plan_a(&[&[1, 0, 1, 3], &[2, 0, 1, 4]])
 }
 
+/// The shortest file that is accepted: one link between nodes 1 and 2, and 1 may start to 2 in slot 0.
+pub fn smallest() -> Vec<u8> {
+    let given = [
+        field(1, &[1, 0]),
+        field(1, &[2, 0]),
+        field(2, &[0, 1, 2]),
+        field(3, &[1, 2, 0]),
+        field(4, &[1, 0, 1, 2]),
+    ];
+    [&given.concat(), &INTERVALS[..]].concat()
+}
+
 /// Field 06 of a rate, the latencies a, d, f and g, and a slot length.
 pub fn times(rate: u16, numbers: [u32; 5]) -> Vec<u8> {
     let numbers = numbers.map(u32::to_be_bytes);
     field(6, &[&rate.to_be_bytes(), numbers.as_flattened()].concat())
 }
 
-/// Intervals 90 and 110, and nothing else.
+/// Intervals 90 and 110, and nothing else: no plan, since it has no entry.
 pub const INTERVALS: [u8; 11] = [5, 0, 8, 0, 0, 0, 90, 0, 0, 0, 110];
 
 /// A box under this plan.
 pub fn under(file: &[u8]) -> Spwd {
     let mut spwd = Spwd::new();
     spwd.load(file).unwrap();
+    spwd
+}
+
+/// A box under the first plan, with something in every part of it.
+pub fn busy() -> Spwd {
+    let mut spwd = under(&first());
+    assert_eq!(spwd.request(1, 3, READ, 1), Ok(0));
+    assert_eq!(spwd.request(1, 3, READ, 1), Ok(1));
+    assert_eq!(spwd.time_code(0, 1_000, &mut [0; RECORDS_ROOM]), Ok(1));
+    assert_eq!(spwd.reading(2_000), Ok(true));
     spwd
 }

@@ -4,44 +4,64 @@ use mathlib.Core.Logic.{_≢_}
 use mathlib.Core.List.{[]}
 use mathlib.Core.Option.{none}
 use borrow.Author.Needs.{needs}
-use Rattle.rules_plan.specs.Judge.{overrun, clash}
+use Rattle.rules_plan.specs.declared.Verdict.{Verdict}
+use Rattle.rules_plan.specs.Judge.{overrun, clash, judge}
 use Rattle.rules_plan.specs.Canon.{given}
+use Rattle.rules_plan.specs.Words.{Complete}
 use Rattle.rules_plan.specs.laws.Fair.{Fair}
-use Rattle.rules_plan.specs.laws.Verdicts.{without-timing, with-overrun, with-clash}
+use Rattle.rules_plan.specs.laws.Verdicts.{Decided, by-12, by-15, by-13, by-14, decides}
 use Rattle.rules_plan.specs.laws.Whole.{Clean, clean-counts}
 use Rattle.rules_plan.specs.laws.Accepted.{file-fair, clean-good}
 use Rattle.rules_plan.specs.Verdict.{searchOf}
-use Rattle.load_judge.proofs.whole.Whole.{without, with-them, few, found, found-nothing}
+use Rattle.load_judge.proofs.whole.Whole.{without, with-them, without-entries, with-entries, few, found, found-nothing}
 use Rattle.load_judge.proofs.whole.judge_whole.Statement.{statement}
 use Rattle.load_judge.proofs.whole.judge_whole.Tie as tie
 
 fair : (c : tie.Start) → Fair (given (c .args .file .now))
 fair c = file-fair _ _ (c .pre .1)
 
+-- the row that decides, of the file of a call
+abbrev Row : tie.Start → Verdict → Type 0
+Row c = Decided (c .args .file .now) (given (c .args .file .now))
+
+decision : (c : tie.Start) {v : Verdict} → Row c v → v ≡ judge (c .args .file .now)
+decision c d = sym (decides _ (c .pre .0) _ (c .pre .1) d)
+
 -- behind the first test the plan has intervals
 timed : (c : tie.Else1) → given (c .before .before .before .args .file .now) .timings ≢ []
 timed c = with-them _ (c .before .before .before .pre .7) (c .if1 .left)
 
-overrun-is : (c : tie.After-find-overrun) → c .find-overrun .result ≡ searchOf (overrun (given (c .before .before .before .before .args .file .now) .entries))
-overrun-is c = let b = c .before .before .before .before in c .find-overrun .ensures _ _ (fair b) (b .pre .3) (b .pre .5) (b .pre .7)
+-- behind the second an entry too
+abbrev start : tie.Else2 → tie.Start
+start c = c .before .before .before .before .before
 
-no-overrun : (c : tie.After-find-clash) → overrun (given (c .before .before .before .before .before .before .before .args .file .now) .entries) ≡ none
-no-overrun c = found-nothing _ (sym (overrun-is (c .before .before .before)) ∙ c .before .enum-told .given .1)
+complete : (c : tie.Else2) → Complete (given (start c .args .file .now))
+complete c = record { timing = timed (c .before .before); entry = with-entries _ (start c .pre .7) (c .if2 .left) }
 
-clash-is : (c : tie.After-find-clash) → c .find-clash .result ≡ searchOf (clash (given (c .before .before .before .before .before .before .before .args .file .now)) (given (c .before .before .before .before .before .before .before .args .file .now) .entries))
-clash-is c = let b = c .before .before .before .before .before .before .before in c .find-clash .ensures _ _ (fair b) (no-overrun c) (b .pre .3) (b .pre .4) (b .pre .5) (b .pre .6) (b .pre .7)
+overrun-is : (c : tie.After-find-overrun) → c .find-overrun .result ≡ searchOf (overrun (given (start (c .before) .args .file .now) .entries))
+overrun-is c = let b = start (c .before) in c .find-overrun .ensures _ _ (fair b) (b .pre .3) (b .pre .5) (b .pre .7)
+
+-- behind the third no entry overruns
+abbrev searched : tie.After-enum-told → tie.Else2
+searched c = c .before .before .before
+
+no-overrun : (c : tie.After-enum-told) → overrun (given (start (searched c) .args .file .now) .entries) ≡ none
+no-overrun c = found-nothing _ (sym (overrun-is (c .before .before)) ∙ c .enum-told .given .1)
+
+clash-is : (c : tie.After-find-clash) → c .find-clash .result ≡ searchOf (clash (given (start (searched (c .before)) .args .file .now)) (given (start (searched (c .before)) .args .file .now) .entries))
+clash-is c = let b = start (searched (c .before)) in c .find-clash .ensures _ _ (fair b) (no-overrun (c .before)) (b .pre .3) (b .pre .4) (b .pre .5) (b .pre .6) (b .pre .7)
 
 -- behind the last the file is clean
-clean : (c : tie.After-enum-told2) → Clean (c .before .before .before .before .before .before .before .before .before .args .file .now) (given (c .before .before .before .before .before .before .before .before .before .args .file .now))
+abbrev passed : tie.After-enum-told2 → tie.After-enum-told
+passed c = c .before .before .before
+
+no-clash : (c : tie.After-enum-told2) → clash (given (start (searched (passed c)) .args .file .now)) (given (start (searched (passed c)) .args .file .now) .entries) ≡ none
+no-clash c = found-nothing _ (sym (clash-is (c .before .before)) ∙ c .enum-told2 .given .1)
+
+clean : (c : tie.After-enum-told2) → Clean (start (searched (passed c)) .args .file .now) (given (start (searched (passed c)) .args .file .now))
 clean c =
-    let b = c .before .before .before .before .before .before .before .before .before in
-    record {
-      short = b .pre .0;
-      reads = b .pre .1;
-      timing = timed (c .before .before .before .before .before .before);
-      no-overrun = no-overrun (c .before .before);
-      no-clash = found-nothing _ (sym (clash-is (c .before .before)) ∙ c .enum-told2 .given .1);
-    }
+    let b = start (searched (passed c)) in
+    record { short = b .pre .0; reads = b .pre .1; complete = complete (searched (passed c)); no-overrun = no-overrun (passed c); no-clash = no-clash c }
 
 element-copy-out-if1 : tie.Need-element-copy-out-if1
 element-copy-out-if1 c = search needs
@@ -50,7 +70,16 @@ cast-t17 : tie.Need-cast-t17
 cast-t17 c = search needs
 
 returns : tie.Need-returns
-returns c = let b = c .before .before .before in sym (without-timing _ (b .pre .0) _ (b .pre .1) (without _ (b .pre .7) (fair b) (c .if1 .taken)))
+returns c = let b = c .before .before .before in decision b (by-12 (without _ (b .pre .7) (fair b) (c .if1 .taken)))
+
+element-copy-out-if2 : tie.Need-element-copy-out-if2
+element-copy-out-if2 c = search needs
+
+cast-t21 : tie.Need-cast-t21
+cast-t21 c = search needs
+
+returns-2 : tie.Need-returns-2
+returns-2 c = let b = c .before .before .before .before .before in decision b (by-15 (timed (c .before .before)) (without-entries _ (b .pre .7) (c .if2 .taken)))
 
 find-overrun-requires : tie.Need-find-overrun-requires
 find-overrun-requires c κs = search needs
@@ -58,8 +87,10 @@ find-overrun-requires c κs = search needs
 enum-known-overrun : tie.Need-enum-known-overrun
 enum-known-overrun c = search needs
 
-returns-2 : tie.Need-returns-2
-returns-2 c = let b = c .before .before .before .before .before .before .before in sym (with-overrun _ (b .pre .0) _ (b .pre .1) (timed (c .before .before .before .before)) _ (found _ (sym (overrun-is (c .before .before .before)) ∙ c .before .overrun .given .1)))
+returns-3 : tie.Need-returns-3
+returns-3 c =
+    let s = c .before .before .before in
+    decision (start (s .before)) (by-13 (complete (s .before)) (found _ (sym (overrun-is s) ∙ c .before .overrun .given .1)))
 
 enum-told : tie.Need-enum-told
 enum-told c = search needs
@@ -70,17 +101,22 @@ find-clash-requires c κs = search needs
 enum-known-clash : tie.Need-enum-known-clash
 enum-known-clash c = search needs
 
-returns-3 : tie.Need-returns-3
-returns-3 c = let b = c .before .before .before .before .before .before .before .before .before .before in sym (with-clash _ (b .pre .0) _ (b .pre .1) (timed (c .before .before .before .before .before .before .before)) _ (no-overrun (c .before .before .before)) (found _ (sym (clash-is (c .before .before .before)) ∙ c .before .clash .given .1)))
+returns-4 : tie.Need-returns-4
+returns-4 c =
+    let s = c .before .before .before in
+    let b = searched (s .before) in
+    decision (start b) (by-14 (complete b) (no-overrun (s .before)) (found _ (sym (clash-is s) ∙ c .before .clash .given .1)))
 
 enum-told-2 : tie.Need-enum-told-2
 enum-told-2 c = search needs
 
 counted-requires : tie.Need-counted-requires
-counted-requires c κs = few _ (c .before .before .before .before .before .before .before .before .before .pre .7) (clean-good _ _ (clean c))
+counted-requires c κs = few _ (start (searched (passed c)) .pre .7) (clean-good _ _ (clean c))
 
-returns-4 : tie.Need-returns-4
-returns-4 c = let b = c .before .before .before .before .before .before .before .before .before .before in c .counted .ensures _ _ (fair b) (b .pre .2) (b .pre .7) ∙ sym (clean-counts _ _ (clean (c .before)))
+returns-5 : tie.Need-returns-5
+returns-5 c =
+    let b = start (searched (passed (c .before))) in
+    c .counted .ensures _ _ (fair b) (b .pre .2) (b .pre .7) ∙ sym (clean-counts _ _ (clean (c .before)))
 
 pub judge-whole-spec : {M : Type 1} → statement M
 judge-whole-spec =
@@ -89,13 +125,16 @@ judge-whole-spec =
     element-copy-out-if1
     cast-t17
     returns
+    element-copy-out-if2
+    cast-t21
+    returns-2
     find-overrun-requires
     enum-known-overrun
-    returns-2
+    returns-3
     enum-told
     find-clash-requires
     enum-known-clash
-    returns-3
+    returns-4
     enum-told-2
     counted-requires
-    returns-4)
+    returns-5)
