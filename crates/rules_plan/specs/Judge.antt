@@ -146,7 +146,7 @@ missing n s (x ∷ xs) = none
 unfoldable pub noTiming : List ℕ → Plan → Option Verdict
 noTiming s p = missing 12 s (p .timings)
 
--- 15: "A plan with no entry must not be accepted."
+-- 15: "A plan with no entry must not be accepted … place is the file length."
 unfoldable pub noEntry : List ℕ → Plan → Option Verdict
 noEntry s p = missing 15 s (p .entries)
 
@@ -181,6 +181,7 @@ clash p es = least (clashIn p es)
 unfoldable pub counts : Plan → Verdict
 counts p = Accepted (length (p .devices)) (length (p .links)) (length (p .paths)) (length (p .entries))
 
+-- "Then 12, 13, 14 over the whole"; "15, after 12 and before 13"
 unfoldable pub wholePlan : List ℕ → Plan → Verdict
 wholePlan s p =
     firstSome

@@ -5,6 +5,7 @@ use mathlib.Core.List.{[]}
 use mathlib.Core.Option.{none}
 use borrow.Author.Needs.{needs}
 use Rattle.rules_plan.specs.declared.Verdict.{Verdict}
+use Rattle.rules_plan.specs.Plan.{Plan}
 use Rattle.rules_plan.specs.Judge.{overrun, clash, judge}
 use Rattle.rules_plan.specs.Canon.{given}
 use Rattle.rules_plan.specs.Words.{Complete}
@@ -17,51 +18,52 @@ use Rattle.load_judge.proofs.whole.Whole.{without, with-them, without-e
 use Rattle.load_judge.proofs.whole.judge_whole.Statement.{statement}
 use Rattle.load_judge.proofs.whole.judge_whole.Tie as tie
 
-fair : (c : tie.Start) → Fair (given (c .args .file .now))
+-- the plan of the file of a call
+abbrev plan-of : tie.Start → Plan
+plan-of c = given (c .args .file .now)
+
+fair : (c : tie.Start) → Fair (plan-of c)
 fair c = file-fair _ _ (c .pre .1)
 
--- the row that decides, of the file of a call
-abbrev Row : tie.Start → Verdict → Type 0
-Row c = Decided (c .args .file .now) (given (c .args .file .now))
-
-decision : (c : tie.Start) {v : Verdict} → Row c v → v ≡ judge (c .args .file .now)
+-- the row that decides on it gives the verdict
+decision : (c : tie.Start) {v : Verdict} → Decided (c .args .file .now) (plan-of c) v → v ≡ judge (c .args .file .now)
 decision c d = sym (decides _ (c .pre .0) _ (c .pre .1) d)
 
 -- behind the first test the plan has intervals
-timed : (c : tie.Else1) → given (c .before .before .before .args .file .now) .timings ≢ []
+timed : (c : tie.Else1) → plan-of (c .before .before .before) .timings ≢ []
 timed c = with-them _ (c .before .before .before .pre .7) (c .if1 .left)
 
 -- behind the second an entry too
 abbrev start : tie.Else2 → tie.Start
 start c = c .before .before .before .before .before
 
-complete : (c : tie.Else2) → Complete (given (start c .args .file .now))
+complete : (c : tie.Else2) → Complete (plan-of (start c))
 complete c = record { timing = timed (c .before .before); entry = with-entries _ (start c .pre .7) (c .if2 .left) }
 
-overrun-is : (c : tie.After-find-overrun) → c .find-overrun .result ≡ searchOf (overrun (given (start (c .before) .args .file .now) .entries))
+overrun-is : (c : tie.After-find-overrun) → c .find-overrun .result ≡ searchOf (overrun (plan-of (start (c .before)) .entries))
 overrun-is c = let b = start (c .before) in c .find-overrun .ensures _ _ (fair b) (b .pre .3) (b .pre .5) (b .pre .7)
 
 -- behind the third no entry overruns
 abbrev searched : tie.After-enum-told → tie.Else2
 searched c = c .before .before .before
 
-no-overrun : (c : tie.After-enum-told) → overrun (given (start (searched c) .args .file .now) .entries) ≡ none
+no-overrun : (c : tie.After-enum-told) → overrun (plan-of (start (searched c)) .entries) ≡ none
 no-overrun c = found-nothing _ (sym (overrun-is (c .before .before)) ∙ c .enum-told .given .1)
 
-clash-is : (c : tie.After-find-clash) → c .find-clash .result ≡ searchOf (clash (given (start (searched (c .before)) .args .file .now)) (given (start (searched (c .before)) .args .file .now) .entries))
+clash-is : (c : tie.After-find-clash) → c .find-clash .result ≡ searchOf (clash (plan-of (start (searched (c .before)))) (plan-of (start (searched (c .before))) .entries))
 clash-is c = let b = start (searched (c .before)) in c .find-clash .ensures _ _ (fair b) (no-overrun (c .before)) (b .pre .3) (b .pre .4) (b .pre .5) (b .pre .6) (b .pre .7)
 
 -- behind the last the file is clean
 abbrev passed : tie.After-enum-told2 → tie.After-enum-told
 passed c = c .before .before .before
 
-no-clash : (c : tie.After-enum-told2) → clash (given (start (searched (passed c)) .args .file .now)) (given (start (searched (passed c)) .args .file .now) .entries) ≡ none
+no-clash : (c : tie.After-enum-told2) → clash (plan-of (start (searched (passed c)))) (plan-of (start (searched (passed c))) .entries) ≡ none
 no-clash c = found-nothing _ (sym (clash-is (c .before .before)) ∙ c .enum-told2 .given .1)
 
-clean : (c : tie.After-enum-told2) → Clean (start (searched (passed c)) .args .file .now) (given (start (searched (passed c)) .args .file .now))
+clean : (c : tie.After-enum-told2) → Clean (start (searched (passed c)) .args .file .now) (plan-of (start (searched (passed c))))
 clean c =
-    let b = start (searched (passed c)) in
-    record { short = b .pre .0; reads = b .pre .1; complete = complete (searched (passed c)); no-overrun = no-overrun (passed c); no-clash = no-clash c }
+    let b = searched (passed c) in
+    record { short = start b .pre .0; reads = start b .pre .1; complete = complete b; no-overrun = no-overrun (passed c); no-clash = no-clash c }
 
 element-copy-out-if1 : tie.Need-element-copy-out-if1
 element-copy-out-if1 c = search needs
