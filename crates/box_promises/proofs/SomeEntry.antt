@@ -3,9 +3,8 @@ use mathlib.Core.Path.{_≡_, refl}
 use mathlib.Core.List.{List, [], _∷_, List·Memᴰ, List·Memᴰ·head}
 use mathlib.Core.Option.{Option, none, some}
 use Prim.Native.Nat.{ℕ}
-use native.Mathlib.Omega.{arith}
-use lib.ListN.{length}
 use Rattle.lists.specs.laws.At.{member-at}
+use Rattle.lists.specs.laws.Count.{some-counted}
 use Rattle.rules_plan.specs.Plan.{Entry, Plan}
 use Rattle.rules_plan.specs.Meaning.{initiators}
 use Rattle.rules_plan.specs.Promises.{AcceptedIsSound}
@@ -42,7 +41,7 @@ module _ (m : Memory) (b : Box) (h : HeldBy m b) where
   first-stands p is = go (p .entries) refl
     where
       go : (es : List Entry) → p .entries ≡ es → SomeEntry m
-      go [] e = let z : length (p .entries) ≡ 0 = rw e in absurd (omega (arith, (reached-good b (h .reached) p is) .some-entry))
+      go [] e = absurd ((some-counted (p .entries)) .1 (reached-good b (h .reached) p is .some-entry) e)
       go (x ∷ es) e = stands-in x (rw (is, e) (List·Memᴰ·head refl))
 
 pub plan-has-an-entry : AcceptedIsSound → PlanHasAnEntry

@@ -1,6 +1,7 @@
--- How long a list is that is made of parts.
-use mathlib.Core.Path.{_≡_}
-use mathlib.Core.List.{List, [], _∷_, flatMap}
+-- How long a list is that is made of parts, and what a length says of being empty.
+use mathlib.Core.Path.{_≡_, refl}
+use mathlib.Core.Logic.{_≢_, _↔_}
+use mathlib.Core.List.{List, [], _∷_, cons≢nil, flatMap}
 use mathlib.Core.Bool.{Bool, true, false}
 use Prim.Native.Nat.{ℕ, _*_, _≤_}
 use native.Mathlib.Omega.{arith}
@@ -25,3 +26,11 @@ pub only-short : {A : Type 0} (b : Bool) (x : A) → length (only b x) ≤ 1
 unfolding only
 only-short true x = omega arith
 only-short false x = omega arith
+
+pub none-counted : {A : Type 0} (xs : List A) → length xs ≡ 0 → xs ≡ []
+none-counted [] e = refl
+none-counted (x ∷ xs) e = absurd (omega (arith, e))
+
+pub some-counted : {A : Type 0} (xs : List A) → (xs ≢ []) ↔ (1 ≤ length xs)
+some-counted [] = (λ h. absurd (h refl), λ h. absurd (omega (arith, h)))
+some-counted (x ∷ xs) = (λ h. omega arith, λ h. cons≢nil)

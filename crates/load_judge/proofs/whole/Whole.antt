@@ -5,7 +5,7 @@ use mathlib.Core.List.{List, [], _∷_, List·Memᴰ·head}
 use mathlib.Core.Option.{Option, none, some}
 use Prim.Native.Nat.{ℕ, _≤_}
 use native.Mathlib.Omega.{arith}
-use lib.ListN.{length}
+use Rattle.lists.specs.laws.Count.{none-counted}
 use Rattle.rules_plan.specs.declared.Verdict.{Verdict}
 use Rattle.rules_plan.specs.Plan.{nth, Timing, Plan, timing}
 use Rattle.rules_plan.specs.Good.{Good}
@@ -17,10 +17,6 @@ use Rattle.rules_plan.specs.declared.Search.the-variants.{Nothing, Found}
 use Rattle.rules_plan.specs.Verdict.{searchOf}
 use Rattle.rules_plan.specs.Meaning.{greatestOf}
 use Rattle.memory_plan.specs.Memory.{numbersWith, numbersOf}
-
-none-counted : {A : Type 0} (xs : List A) → length xs ≡ 0 → xs ≡ []
-none-counted [] e = refl
-none-counted (x ∷ xs) e = absurd (omega (arith, e))
 
 -- the intervals: the greatest is 0 where there are none
 module _ (p : Plan) {w : List ℕ} (is : w ≡ numbersOf p) where

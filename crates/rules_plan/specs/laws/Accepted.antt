@@ -1,11 +1,11 @@
 -- An accepted file gives a good plan, and is that plan written out in the file's order.
 use mathlib.Core.Path.{_≡_, refl}
-use mathlib.Core.Logic.{_≢_}
 use mathlib.Core.List.{List, [], _∷_}
-use Prim.Native.Nat.{ℕ, suc, _≤_}
+use Prim.Native.Nat.{ℕ, suc}
 use native.Mathlib.Omega.{arith}
 use lib.ListN.{length}
-use Rattle.rules_plan.specs.Plan.{Entry, Timing, Plan, blank}
+use Rattle.lists.specs.laws.Count.{some-counted}
+use Rattle.rules_plan.specs.Plan.{Timing, Plan, blank}
 use Rattle.rules_plan.specs.Verdict.{number}
 use Rattle.rules_plan.specs.Judge.{plan, readFile, judge}
 use Rattle.rules_plan.specs.Canon.{items, written, given}
@@ -64,15 +64,11 @@ module _ (s : List ℕ) (p : Plan) (clean : Clean s p) where
         reached = f .reached;
         timing = one (p .timings) refl;
         times = omega (arith, f .lists .times);
-        some-entry = omega (arith, some (p .entries) (clean .complete .entry));
+        some-entry = omega (arith, (some-counted (p .entries)) .0 (clean .complete .entry));
         no-overrun = clean .no-overrun;
         no-clash = clean .no-clash;
       }
     where
-      some : (es : List Entry) → es ≢ [] → 1 ≤ length es
-      some [] h = absurd (h refl)
-      some (e ∷ es) h = omega arith
-
       one : (ts : List Timing) → p .timings ≡ ts → length (p .timings) ≡ 1
       one [] e = absurd (clean .complete .timing e)
       one (t ∷ ts) e = let n : length (p .timings) ≡ suc (length ts) = rw e in omega (arith, whole .0 .lists .timings)

@@ -2,6 +2,7 @@
 use mathlib.Core.Path.{_≡_, refl}
 use native.Mathlib.Omega.{arith}
 use lib.ListN.{length}
+use Rattle.lists.specs.laws.Count.{some-counted}
 use Rattle.rules_plan.specs.Plan.{Plan, blank}
 use Rattle.rules_plan.specs.Verdict.{number}
 use Rattle.rules_plan.specs.Judge.{plan, readFile, counts, judge}
@@ -24,8 +25,8 @@ module _ (p : Plan) (good : Good p) where
     short = good .short;
     reads = reads-back;
     complete = record {
-      timing = λ e. let z : length (p .timings) ≡ 0 = rw e in absurd (omega (arith, good .timing));
-      entry = λ e. let z : length (p .entries) ≡ 0 = rw e in absurd (omega (arith, good .some-entry));
+      timing = (some-counted (p .timings)) .1 (omega (arith, good .timing));
+      entry = (some-counted (p .entries)) .1 (omega (arith, good .some-entry));
     };
     no-overrun = good .no-overrun;
     no-clash = good .no-clash;

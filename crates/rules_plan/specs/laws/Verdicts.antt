@@ -53,17 +53,18 @@ module _ (s : List ℕ) (p : Plan) where
 
   -- some row does, or none
   pub whole-decided : Decided s p (wholePlan s p)
-  whole-decided = go (p .timings) refl (p .entries) refl (overrun (p .entries)) refl (clash p (p .entries)) refl
+  whole-decided = go (p .timings) refl (p .entries) refl
     where
-      go : (ts : List Timing) → p .timings ≡ ts → (es : List Entry) → p .entries ≡ es → (x : Option Verdict) → overrun (p .entries) ≡ x → (y : Option Verdict) → clash p (p .entries) ≡ y → Decided s p (wholePlan s p)
-      go [] a es b x f y g = decided-so (by-12 a)
-      go (t ∷ ts) a [] b x f y g = decided-so (by-15 (λ z. cons≢nil (sym a ∙ z)) b)
-      go (t ∷ ts) a (e ∷ es) b x f y g = searched (record { timing = λ z. cons≢nil (sym a ∙ z); entry = λ z. cons≢nil (sym b ∙ z) }) x f y g
-        where
-          searched : Complete p → (x : Option Verdict) → overrun (p .entries) ≡ x → (y : Option Verdict) → clash p (p .entries) ≡ y → Decided s p (wholePlan s p)
-          searched c (some v) f y g = decided-so (by-13 c f)
-          searched c none f (some v) g = decided-so (by-14 c f g)
-          searched c none f none g = decided-so (by-none c f g)
+      searched : Complete p → (x : Option Verdict) → overrun (p .entries) ≡ x → (y : Option Verdict) → clash p (p .entries) ≡ y → Decided s p (wholePlan s p)
+      searched c (some v) f y g = decided-so (by-13 c f)
+      searched c none f (some v) g = decided-so (by-14 c f g)
+      searched c none f none g = decided-so (by-none c f g)
+
+      go : (ts : List Timing) → p .timings ≡ ts → (es : List Entry) → p .entries ≡ es → Decided s p (wholePlan s p)
+      go [] a es b = decided-so (by-12 a)
+      go (t ∷ ts) a [] b = decided-so (by-15 (λ z. cons≢nil (sym a ∙ z)) b)
+      go (t ∷ ts) a (e ∷ es) b =
+          searched (record { timing = λ z. cons≢nil (sym a ∙ z); entry = λ z. cons≢nil (sym b ∙ z) }) (overrun (p .entries)) refl (clash p (p .entries)) refl
 
 module _ (s : List ℕ) where
   -- 1
@@ -79,7 +80,7 @@ module _ (s : List ℕ) where
 
     -- 12, 15, 13, 14, and 0
     module _ (p : Plan) (reads : readFile s ≡ plan p) where
-      pub of-whole : judge s ≡ wholePlan s p
+      of-whole : judge s ≡ wholePlan s p
       unfolding judge
       of-whole = rw (le-ltb 16_384 (length s) short, judge, reads)
 
