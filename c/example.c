@@ -1,5 +1,5 @@
 /*
- * example [FILE]: prints two sheets, then loads a plan (FILE, or the first sample of document 01), runs the box for one epoch of 64
+ * example [FILE]: prints three sheets, then loads a plan (FILE, or the first sample of document 01), runs the box for one epoch of 64
  * time-codes with a few requests, replies and a clock reading, and prints what it answers. Without FILE it prints c/example.expected;
  * rust/spwd/examples/epoch.rs does the same in Rust.
  */
@@ -17,14 +17,27 @@ static const uint8_t first_sample[] = {
     0x05, 0, 8, 0, 0, 0, 90, 0, 0, 0, 110,
 };
 
+static const spwd_latencies latencies = {5000, 5000, 5000, 5000};
+
 /* How long a transaction of so many bytes takes over four routers at 200 Mbit/s, with 5 us for each latency. */
 static void sheet(uint16_t length)
 {
-    static const spwd_latencies latencies = {5000, 5000, 5000, 5000};
     spwd_terms terms = spwd_sheet(4, 200, length, latencies);
     printf("sheet of %u bytes: ", (unsigned)length);
     if (terms.number == SPWD_TAKEN) {
         printf("%lu ns, %lu of them for the data\n", (unsigned long)terms.total, (unsigned long)terms.e);
+    } else {
+        printf("refused %lu\n", (unsigned long)terms.number);
+    }
+}
+
+/* The same where the reply comes home another way, over so many routers. */
+static void sheet2(uint8_t reply_routers, uint16_t length)
+{
+    spwd_terms terms = spwd_sheet2(4, reply_routers, 200, length, latencies);
+    printf("sheet of %u bytes, reply over %u routers: ", (unsigned)length, (unsigned)reply_routers);
+    if (terms.number == SPWD_TAKEN) {
+        printf("%lu ns, %lu of them for the reply\n", (unsigned long)terms.total, (unsigned long)(terms.h + terms.i));
     } else {
         printf("refused %lu\n", (unsigned long)terms.number);
     }
@@ -183,6 +196,7 @@ int main(int count, char **arguments)
     }
     sheet(256);
     sheet(SPWD_LENGTH_MOST + 1);
+    sheet2(2, 256);
     memcpy(file, first_sample, size);
     if (count > 1) {
         FILE *stream = fopen(arguments[1], "rb");

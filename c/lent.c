@@ -20,7 +20,7 @@ static void *room(size_t size) {
 }
 
 static struct plan lend(void) {
-    return (struct plan){room(24), room(64), room(4096), room(128), room(8), room(1408), room(512), room(2096)};
+    return (struct plan){room(24), room(64), room(4096), room(128), room(8), room(2816), room(512), room(2096)};
 }
 
 static void take_back(struct plan p) {

@@ -33,7 +33,7 @@
 /* ---- the version of this interface: one more with each change of what is lent, of the numbers that calls take and give back, or of
  * the bytes of a plan file or a record */
 
-#define SPWD_VERSION 3
+#define SPWD_VERSION 4
 
 /* ---- sizes */
 
@@ -46,10 +46,10 @@ enum spwd_size {
     SPWD_LINE_ROOM = 40, /* bytes of the buffer for a printed verdict */
     SPWD_SLOTS = 64,
     SPWD_INITIATORS_MOST = 8,
-    SPWD_PATHS_MOST = 128,
+    SPWD_PATHS_MOST = 128, /* and as many replies: one for each path at most */
     SPWD_WAITING_MOST = 8,
     SPWD_LENGTH_MOST = 4096, /* data bytes of a request, and of a sheet */
-    SPWD_ROUTERS_MOST = 7, /* routers of a path, and of a sheet */
+    SPWD_ROUTERS_MOST = 7, /* routers of a path or a reply, and of each way of a sheet */
     SPWD_RATE_LEAST = 2, /* Mbit/s of a sheet, and of a plan's times */
     SPWD_RATE_MOST = 400,
     SPWD_LATENCY_MOST = 1000000, /* nanoseconds of each latency, of a sheet and of a plan's times */
@@ -60,9 +60,11 @@ enum spwd_size {
  * gives to an enum: switch ((spwd_refusal)answer.number) lets it warn of those that are left out. */
 
 /* Verdicts. What stands in `values` of a spwd_verdict is given beside each; what is not named is 0.
- * SPWD_NO_ENTRY is judged after SPWD_NO_INTERVALS and before SPWD_OVERRUN. */
+ * SPWD_NO_ENTRY is judged after SPWD_NO_INTERVALS and before SPWD_OVERRUN.
+ * A reply (field 07) is judged as a path is, but its links are walked from the target back to the initiator; SPWD_NO_PATH is also given to
+ * a reply whose pair has no path, and SPWD_TOO_MANY to none. */
 typedef enum spwd_verdict_number {
-    SPWD_ACCEPTED = 0,           /* devices, links, paths, entries */
+    SPWD_ACCEPTED = 0,           /* devices, links, paths, entries; replies are not counted */
     SPWD_FILE_TOO_LONG = 1,      /* 0 */
     SPWD_CUT_OFF = 2,            /* 2 to 11: offset of the tag of the field at fault */
     SPWD_UNKNOWN_TAG = 3,
@@ -76,7 +78,7 @@ typedef enum spwd_verdict_number {
     SPWD_NO_PATH = 11,
     SPWD_NO_INTERVALS = 12,      /* file length */
     SPWD_OVERRUN = 13,           /* initiator, slot */
-    SPWD_CLASH = 14,             /* slot, smaller initiator, greater initiator, link */
+    SPWD_CLASH = 14,             /* slot, smaller initiator, greater initiator, link; the links of a command and of its reply count */
     SPWD_NO_ENTRY = 15           /* file length */
 } spwd_verdict_number;
 
@@ -112,19 +114,19 @@ typedef enum spwd_status_class { SPWD_SUCCESS = 0, SPWD_ERROR = 1, SPWD_RESERVED
 
 /* ---- memory that the caller lends */
 
-/* Plan memory. */
+/* Plan memory: 9,744 bytes. */
 typedef struct spwd_plan {
     uint64_t sets[3];
     uint8_t ends[128];
     uint8_t rows[8];
     uint64_t reach[8];
-    uint8_t paths[1408];
+    uint8_t paths[2816]; /* 128 rows of 11 bytes for the paths, and as many for the replies */
     uint8_t spans[512];
     uint64_t aims[512];
     uint32_t numbers[524];
 } spwd_plan;
 
-/* One box: all memory that it needs. Only `watchdog` is for the caller to read and write. */
+/* One box: all memory that it needs, 10,536 bytes. Only `watchdog` is for the caller to read and write. */
 typedef struct spwd_box {
     spwd_plan plan;
     uint64_t run[96];
@@ -206,9 +208,9 @@ typedef struct spwd_record {
 
 SPWD_HOLDS(sizes_of_64_bits, sizeof(size_t) == 8 && sizeof(void *) == 8);
 SPWD_HOLDS(records_room, SPWD_RECORDS_ROOM == 136);
-SPWD_HOLDS(plan_without_gaps, sizeof(spwd_plan) == 8336);
-SPWD_HOLDS(box_without_gaps_but_at_its_end, offsetof(spwd_box, last) == 8336 + 768 + 20);
-SPWD_HOLDS(box_size, sizeof(spwd_box) == 9128);
+SPWD_HOLDS(plan_without_gaps, sizeof(spwd_plan) == 9744);
+SPWD_HOLDS(box_without_gaps_but_at_its_end, offsetof(spwd_box, last) == 9744 + 768 + 20);
+SPWD_HOLDS(box_size, sizeof(spwd_box) == 10536);
 
 /* ---- the box */
 
@@ -344,12 +346,14 @@ static inline size_t spwd_print(const spwd_verdict *verdict, uint8_t line[SPWD_L
     return spwd_c_print(numbers, line);
 }
 
-/* Works out how long one transaction takes: over so many routers, which are the links of its path less one, at a rate in Mbit/s, with so
- * many data bytes and these latencies. No box is asked.
- * Refusals: SPWD_OUT_OF_RANGE (over SPWD_ROUTERS_MOST, a rate outside SPWD_RATE_LEAST to SPWD_RATE_MOST, over SPWD_LENGTH_MOST, a latency
- * over SPWD_LATENCY_MOST).
+/* Works out how long one transaction takes whose reply has a way of its own: over so many routers on the command's way and so many on the
+ * reply's, which are the links of each less one, at a rate in Mbit/s, with so many data bytes and these latencies. No box is asked.
+ * The terms b and c go by the command's routers, but for the reply address in c; it and the terms h and i go by the reply's.
+ * Refusals: SPWD_OUT_OF_RANGE (over SPWD_ROUTERS_MOST on either way, a rate outside SPWD_RATE_LEAST to SPWD_RATE_MOST, over
+ * SPWD_LENGTH_MOST, a latency over SPWD_LATENCY_MOST).
  * Left as it was: everything. */
-SPWD_MUST_LOOK static inline spwd_terms spwd_sheet(uint8_t routers, uint16_t rate, uint16_t length, spwd_latencies latencies)
+SPWD_MUST_LOOK static inline spwd_terms spwd_sheet2(uint8_t command_routers, uint8_t reply_routers, uint16_t rate, uint16_t length,
+                                                    spwd_latencies latencies)
 {
     uint32_t given[4];
     uint32_t answer[7];
@@ -358,7 +362,7 @@ SPWD_MUST_LOOK static inline spwd_terms spwd_sheet(uint8_t routers, uint16_t rat
     given[1] = latencies.d;
     given[2] = latencies.f;
     given[3] = latencies.g;
-    spwd_c_sheet(routers, routers, rate, length, given, answer);
+    spwd_c_sheet(command_routers, reply_routers, rate, length, given, answer);
     terms.number = answer[0];
     terms.total = answer[1];
     terms.b = answer[2];
@@ -367,6 +371,14 @@ SPWD_MUST_LOOK static inline spwd_terms spwd_sheet(uint8_t routers, uint16_t rat
     terms.h = answer[5];
     terms.i = answer[6];
     return terms;
+}
+
+/* The same for a reply that goes back over the links of its command: both ways have so many routers.
+ * Refusals: those of spwd_sheet2.
+ * Left as it was: everything. */
+SPWD_MUST_LOOK static inline spwd_terms spwd_sheet(uint8_t routers, uint16_t rate, uint16_t length, spwd_latencies latencies)
+{
+    return spwd_sheet2(routers, routers, rate, length, latencies);
 }
 
 /* Says whether every number of the box and of the five is that of a clear.

@@ -118,11 +118,14 @@ struct Taken {
     reading: Least,
 }
 
-/// Times all events under the plan, and those that a plan's times bear on under the same with times, and prints their rows.
+/// Times all events under the plan, and those that a plan's times bear on under the same with times, and with replies too, and prints
+/// their rows.
 pub fn print_events(maximal: &[u8]) {
     let timed = large::timed(maximal);
+    let replied = large::replied_round(&timed);
     let (ours, theirs) = least_of_events(maximal);
     let (ours_timed, theirs_timed) = least_of_events(&timed);
+    let (ours_replied, theirs_replied) = least_of_events(&replied);
     for (name, least, their_least) in [
         (
             "time-code, 8 endings and 8 starts",
@@ -134,11 +137,21 @@ pub fn print_events(maximal: &[u8]) {
             &ours_timed.time_code,
             &theirs_timed.time_code,
         ),
+        (
+            "time-code, 8 endings, 8 starts, times and replies",
+            &ours_replied.time_code,
+            &theirs_replied.time_code,
+        ),
         ("request", &ours.request, &theirs.request),
         (
             "request, with times",
             &ours_timed.request,
             &theirs_timed.request,
+        ),
+        (
+            "request, with times and replies",
+            &ours_replied.request,
+            &theirs_replied.request,
         ),
         ("reply", &ours.reply, &theirs.reply),
         ("reading", &ours.reading, &theirs.reading),
@@ -147,6 +160,7 @@ pub fn print_events(maximal: &[u8]) {
     }
     print_not_permitted("request, refused with 25", maximal);
     print_not_permitted("request, refused with 25, with times", &timed);
+    print_not_permitted("request, refused with 25, times and replies", &replied);
 }
 
 /// Of both sides under a plan.

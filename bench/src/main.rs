@@ -19,20 +19,45 @@ fn main() {
         _ => panic!("usage: bench FILE FILE: plan A, accepted and refused with 13"),
     });
     let maximal = large::maximal();
+    let replied = large::replied_round(&maximal);
     print_head();
-    both_loads("load plan A", &plan_a);
-    both_loads("load plan A, an entry overrun", &plan_a_overrun);
-    both_loads("load a maximal plan", &maximal);
-    load("load a maximal plan, falling", &large::falling(&maximal));
-    let overrun = large::overrun(&maximal);
+    loads(&plan_a, &plan_a_overrun, &maximal, &replied);
+    write_out("write out plan A", &plan_a);
+    write_out("write out a maximal plan", &maximal);
+    write_out(
+        "write out the same with one entry",
+        &large::one_entry(&maximal),
+    );
+    write_out("write out a maximal plan, with replies", &replied);
+    events::print_events(&maximal);
+    clear();
+    print_memory();
+}
+
+fn loads(plan_a: &[u8], plan_a_overrun: &[u8], maximal: &[u8], replied: &[u8]) {
+    both_loads("load plan A", plan_a);
+    both_loads("load plan A, an entry overrun", plan_a_overrun);
+    both_loads("load plan A, with replies", &large::replied(plan_a));
+    both_loads("load a maximal plan", maximal);
+    both_loads("load a maximal plan, with replies", replied);
+    load("load a maximal plan, falling", &large::falling(maximal));
+    let overrun = large::overrun(maximal);
     both_loads("load a maximal plan, an entry overrun", &overrun);
+    load(
+        "load plan A, overrun, with replies",
+        &large::replied(plan_a_overrun),
+    );
+    load(
+        "load a maximal plan, overrun, with replies",
+        &large::replied_round(&overrun),
+    );
     for (part, tags) in [("links", 1..=2), ("paths", 1..=3), ("entries", 1..=4)] {
         let name = format!("load a maximal plan up to its {part}");
-        load(&name, &large::only(&Vec::from_iter(tags), &maximal));
+        load(&name, &large::only(&Vec::from_iter(tags), maximal));
     }
     load(
         "load a maximal plan without entries",
-        &large::only(&[1, 2, 3, 5], &maximal),
+        &large::only(&[1, 2, 3, 5], maximal),
     );
     let full = large::full();
     load("load a full file", &full);
@@ -40,15 +65,6 @@ fn main() {
         "load a full file up to its entries",
         &large::only(&[1, 2, 3, 4], &full),
     );
-    write_out("write out plan A", &plan_a);
-    write_out("write out a maximal plan", &maximal);
-    write_out(
-        "write out the same with one entry",
-        &large::one_entry(&maximal),
-    );
-    events::print_events(&maximal);
-    clear();
-    print_memory();
 }
 
 /// A box of each kind with the file loaded, and the verdict. They must agree on it, and on the plan written out.

@@ -154,7 +154,7 @@ EventsOfTheRules =
     (before after : Lent) (e : Event) (answer : Answer) (b : Box) → Came (before .memory) b → StepLeaves before e answer after →
     OutcomeOf (step (length (before .records)) b (before .five) e) before e answer after
 
--- Demand 3, links. The live transactions of two rows have no link of their paths in common.
+-- Demand 3, links. The live transactions of two rows have no link in common, of their paths or of the ways of their replies.
 unfoldable pub LinksNeverShared : Type 0
 LinksNeverShared =
     (m : Memory) (b : Box) → Came m b → (r r′ : ℕ) → r < 8 → r′ < 8 → r ≢ r′ →

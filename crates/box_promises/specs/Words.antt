@@ -3,7 +3,7 @@ use mathlib.Core.Path.{_≡_}
 use mathlib.Core.Logic.{_⊎_}
 use mathlib.Core.List.{List, [], _∷_, List·Memᴰ}
 use mathlib.Core.Option.{Option, none, some, Option·map}
-use mathlib.Core.Bool.{Bool, true, false, _&&_, cond}
+use mathlib.Core.Bool.{Bool, true, false, _&&_, _||_, cond}
 use Prim.Native.Nat.{ℕ, zero, suc, _+_, _-_, _*_, _/_, _%_, _<_}
 use lib.ListN.{take, drop, replicate}
 use lib.Dec.{eqb, leb}
@@ -25,7 +25,7 @@ blankMemory = record {
   ends = replicate 128 0;
   rows = replicate 8 0;
   reach = replicate 8 0;
-  paths = replicate 1408 0;
+  paths = replicate 2816 0;
   spans = replicate 512 0;
   aims = replicate 512 0;
   numbers = replicate 524 0;
@@ -80,14 +80,15 @@ spanIn m r v = nth (m .spans) (64 * r + v)
 abbrev pub aimsIn : Memory → ℕ → ℕ → ℕ
 aimsIn m r v = nth (m .aims) (64 * r + v)
 
--- path number k, eleven bytes: initiator, target, how many links, the links
+-- row number k of `paths`, eleven bytes: initiator, target, how many links, the links. Row 128 + k is that of path number k's reply, where it
+-- comes home another way.
 unfoldable pub linksIn : Memory → ℕ → List ℕ
 linksIn m k = take (nth (m .paths) (11 * k + 2)) (drop (11 * k + 3) (m .paths))
 
 unfoldable pub isPath : Memory → ℕ → ℕ → ℕ → ℕ → Bool
-isPath m i t l k = eqb (nth (m .paths) (11 * k)) i && eqb (nth (m .paths) (11 * k + 1)) t && isIn l (linksIn m k)
+isPath m i t l k = eqb (nth (m .paths) (11 * k)) i && eqb (nth (m .paths) (11 * k + 1)) t && (isIn l (linksIn m k) || isIn l (linksIn m (128 + k)))
 
--- a path in memory leads from i to t over link l: the fourth of `numbers` says how many paths there are
+-- a path in memory leads from i to t, and it or its reply goes over link l: the fourth of `numbers` says how many paths there are
 unfoldable pub pathHas : Memory → ℕ → ℕ → ℕ → Bool
 pathHas m i t l = anyBelow (nth (m .numbers) 3) (isPath m i t l)
 

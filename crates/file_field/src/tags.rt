@@ -4,12 +4,12 @@ ghost use mathlib.Core.Bool.{_&&_};
 ghost use lib.Dec.{leb};
 ghost use Rattle.rules_plan.specs.Fields.{isTag, comesOnce, lengthAllowed};
 
-// "tag not 01 to 05", and 06 is spared
+// "tag not 01 to 05", and 06 and 07 are spared
 pub fn is_tag(tag: u8) -> bool
     ensures { λ r. ⌜ r ≡ isTag tag ⌝ }
 {
     match tag {
-        1..=6 => true,
+        1..=7 => true,
         _ => false,
     }
 }
@@ -44,6 +44,7 @@ pub fn length_allowed(tag: u8, size: u16) -> bool
         4 => between(4, size, 19),
         5 => between(8, size, 8),
         6 => between(22, size, 22),
+        7 => between(3, size, 10),
         _ => false,
     }
 }

@@ -28,9 +28,8 @@ use Rattle.rules_plan.specs.Meaning.{initiators, mayUse}
 use Rattle.rules_plan.specs.Judge.{overrun, clashIn, clash}
 use Rattle.rules_plan.specs.Words.{Clashing, pair}
 use Rattle.rules_plan.specs.laws.Initiators.{initiator-below}
-use Rattle.rules_plan.specs.laws.InRange.{path-ranged, entry-ranged}
-use Rattle.rules_plan.specs.laws.Uses.{on-path}
-use Rattle.rules_plan.specs.laws.Clashes.{May, may-use, mine, yours, both-use, clash-in-is, clash-in-none}
+use Rattle.rules_plan.specs.laws.InRange.{entry-ranged}
+use Rattle.rules_plan.specs.laws.Clashes.{used-low, May, may-use, mine, yours, both-use, clash-in-is, clash-in-none}
 use Rattle.rules_plan.specs.laws.Fair.{Fair}
 use Rattle.rules_plan.specs.declared.Search.the-variants.{Nothing, Found}
 use Rattle.memory_plan.specs.Memory.{rowsOf, pathsOf, spansOf, aimsOf, numbersWith}
@@ -75,8 +74,7 @@ module _ {p : Plan} {rows paths spans aims numbers : List ℕ} (s : Searched p r
   in-lane : (r i l : ℕ) → RowOf p r i → May-here i l → (l < 64) × (member l (getD lanes r 0) ≡ true)
   unfolding May-here
   in-lane r i l row m =
-      let o = (on-path p i (m .target) l) .0 (m .on) in
-      let low : l < 64 = (path-ranged p (s .fair .ranges) (o .route) (o .has)) .links l (o .on) in (
+      let low = used-low p i (m .target) l (s .fair .ranges) (m .on) in (
         low,
         ap (member l) (lane r (row-small p (s .fair) r i row) ∙ lane-of p v r i row)
             ∙ member-packed l (mayUse p (p .entries) v i) ∙ true-both (lt-ltb l 64 low) ((may-use p (p .entries) v i l) .1 m),

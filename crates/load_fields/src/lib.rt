@@ -1,5 +1,6 @@
 // The fields of a file, front to back, up to the first fault: each is judged and then kept in plan memory.
 ghost use mathlib.Core.Path.{_≡_};
+ghost use mathlib.Core.Logic.{_⊎_};
 ghost use mathlib.Core.Bool.{true};
 ghost use mathlib.Core.List.{[]};
 ghost use mathlib.Core.Option.{some};
@@ -8,9 +9,9 @@ ghost use lib.ListN.{length};
 ghost use Rattle.rules_plan.specs.Plan.{Plan, Item, blank};
 ghost use Rattle.rules_plan.specs.Fields.{asTimes, lengthAllowed, itemOf};
 ghost use Rattle.rules_plan.specs.laws.Fair.{Fair};
-ghost use Rattle.memory_plan.specs.Memory.{rowsOf, pathsOf, numbersWith, HoldsSized, Holds};
+ghost use Rattle.memory_plan.specs.Memory.{setsOf, endsOf, rowsOf, reachOf, pathsOf, numbersWith, HoldsSized, Holds};
 ghost use Rattle.memory_plan.specs.Take.{itemFault, taken};
-ghost use Rattle.load_fields.specs.Fields.{Awaits, Takes, ReadIn};
+ghost use Rattle.load_fields.specs.Fields.{Awaits, Takes, TakesRoute, ReadIn};
 ghost use Rattle.memory_plan.specs.Lent.{atEntry, atExit};
 use bytes_get::four_at;
 use bytes_get::part;
@@ -22,6 +23,7 @@ use load_items::devices::device;
 use load_items::intervals::timing;
 use load_items::links::link;
 use load_paths::path;
+use load_replies::reply;
 use load_times::times;
 use memory_plan::layout::*;
 
@@ -35,7 +37,7 @@ pub struct Read {
 fn take_times(content: &[u8], rows: &Rows, paths: &Paths, numbers: &mut Numbers) -> u8
     requires { ⌜ 22 ≤ length (now content) ⌝ }
     ensures { λ r. ⌜ ((size : ℕ) (p : Plan) → Fair p → now (rows .entry) ≡ rowsOf p → now (paths .entry) ≡ pathsOf p → now (numbers .entry) ≡ numbersWith size p →
-        p .times ≡ [] →
+        p .times ≡ [] → p .replies ≡ [] →
         (r ≡ itemFault p (asTimes (now (content .entry)))) × (now (numbers .exit) ≡ numbersWith size (taken p (asTimes (now (content .entry)))))) ⌝ }
 {
     times(
@@ -49,6 +51,42 @@ fn take_times(content: &[u8], rows: &Rows, paths: &Paths, numbers: &mut Numbers)
         four_at(content, 14),
         four_at(content, 18),
     )
+}
+
+// The content of a 03 or a 07, initiator, target and links: its verdict, 0 for none, and then memory has its path or its reply.
+fn take_route(
+    tag: u8,
+    content: &[u8],
+    sets: &Sets,
+    ends: &Ends,
+    rows: &mut Rows,
+    reach: &mut Reach,
+    paths: &mut Paths,
+    numbers: &mut Numbers,
+) -> u8
+    requires { ⌜ (lengthAllowed tag (length (now content)) ≡ true) × ((tag ≡ 3) ⊎ (tag ≡ 7)) ⌝ }
+    ensures { λ r. ⌜ ((size : ℕ) (p : Plan) (x : Item) → Fair p → Awaits p tag → itemOf tag (now (content .entry)) ≡ some x →
+        now (sets .entry) ≡ setsOf p → now (ends .entry) ≡ endsOf p → now (rows .entry) ≡ rowsOf p → now (reach .entry) ≡ reachOf p →
+        now (paths .entry) ≡ pathsOf p → now (numbers .entry) ≡ numbersWith size p →
+        TakesRoute size p x r (now (rows .exit)) (now (reach .exit)) (now (paths .exit)) (now (numbers .exit))) ⌝ }
+{
+    let initiator = content[0];
+    let target = content[1];
+    let links = part(content, 2, content.len() - 2);
+    if tag == 3 {
+        return path(
+            sets,
+            ends,
+            rows,
+            reach,
+            paths,
+            numbers,
+            initiator,
+            target,
+            links,
+        );
+    }
+    reply(sets, ends, rows, paths, numbers, initiator, target, links)
 }
 
 // One field's content, of an allowed length: its verdict 6 to 11, 0 for none, and then memory has its item.
@@ -72,17 +110,6 @@ fn take_item(
     match tag {
         1 => device(sets, content[0], content[1]),
         2 => link(sets, ends, content[0], content[1], content[2]),
-        3 => path(
-            sets,
-            ends,
-            rows,
-            reach,
-            paths,
-            numbers,
-            content[0],
-            content[1],
-            &content[2..],
-        ),
         4 => entry(
             sets,
             rows,
@@ -96,7 +123,8 @@ fn take_item(
             &content[3..],
         ),
         5 => timing(numbers, four_at(content, 0), four_at(content, 4)),
-        _ => take_times(content, rows, paths, numbers),
+        6 => take_times(content, rows, paths, numbers),
+        _ => take_route(tag, content, sets, ends, rows, reach, paths, numbers),
     }
 }
 

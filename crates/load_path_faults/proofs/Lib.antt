@@ -1,1 +1,1 @@
-pub mod PathFaults
+pub mod RouteFaults

@@ -1,1 +1,2 @@
 pub mod PathRows
+pub mod Routes

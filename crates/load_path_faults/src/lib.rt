@@ -1,79 +1,73 @@
-// The verdict on a path after the plan so far.
+// The verdict on a route after the plan so far: on a path, and on the way of a reply.
 ghost use mathlib.Core.Path.{_≡_};
 ghost use mathlib.Core.List.{List};
-ghost use Prim.Native.Nat.{ℕ, _<_};
+ghost use mathlib.Core.Bool.{false};
+ghost use Prim.Native.Nat.{ℕ};
 ghost use Rattle.lists.specs.Search.{any};
 ghost use Rattle.rules_plan.specs.Plan.{Plan};
-ghost use Rattle.rules_plan.specs.Judge.{over63, outOfRange};
+ghost use Rattle.rules_plan.specs.Judge.{over63, routeOutOfRange};
 ghost use Rattle.rules_plan.specs.laws.Fair.{Fair};
-ghost use Rattle.memory_plan.specs.Memory.{setsOf, endsOf, rowsOf, reachOf, numbersWith, initiatorsIn, pathsIn};
-ghost use Rattle.memory_plan.specs.Take.{itemFault, pathItem};
-ghost use Rattle.memory_plan.specs.Rows.{rowAmong};
+ghost use Rattle.memory_plan.specs.Memory.{setsOf, endsOf};
+ghost use Rattle.load_path_faults.specs.Routes.{route, routeFault};
 use load_walks::trace;
 use memory_plan::layout::*;
 
-// Verdict 6 of a path, over being whether a link is over 63.
-fn path_range(initiator: u8, target: u8, over: bool) -> bool
-    ensures { λ r. ⌜ ((links : List ℕ) → over ≡ any over63 links → r ≡ outOfRange (pathItem initiator target links)) ⌝ }
+// Verdict 6 of a route, over being whether a link is over 63.
+fn route_range(start: u8, end: u8, over: bool) -> bool
+    ensures { λ r. ⌜ ((links : List ℕ) → over ≡ any over63 links → r ≡ routeOutOfRange (route start end links)) ⌝ }
 {
-    if 63 < initiator {
+    if 63 < start {
         return true;
     }
-    if 63 < target {
+    if 63 < end {
         return true;
     }
     if over {
         return true;
     }
-    initiator == target
+    start == end
 }
 
-// The verdict on the path, 0 for none; row is what the search for the initiator's row found. Where the verdict is 0 there is a row for the
-// initiator or room for one, and room for the path.
-pub fn path_fault(
+// The verdict on the route, 0 for none; again, many and alone are what rows 7, 9 and 11 ask of its field.
+pub fn route_fault(
     sets: &Sets,
     ends: &Ends,
-    rows: &Rows,
-    reach: &Reach,
-    numbers: &Numbers,
-    row: usize,
-    initiator: u8,
-    target: u8,
+    start: u8,
     links: &[u8],
+    end: u8,
+    again: bool,
+    many: bool,
+    alone: bool,
 ) -> u8
-    requires { ⌜ row ≡ rowAmong (now rows) (initiatorsIn (now numbers)) initiator ⌝ }
-    ensures { λ r. ⌜ ((size : ℕ) (p : Plan) → Fair p → now (sets .entry) ≡ setsOf p → now (ends .entry) ≡ endsOf p →
-        now (rows .entry) ≡ rowsOf p → now (reach .entry) ≡ reachOf p → now (numbers .entry) ≡ numbersWith size p →
-        r ≡ itemFault p (pathItem initiator target (now (links .entry)))) ⌝ }
-    ensures { λ r. ⌜ (r ≡ 0 → (row < 8) × (pathsIn (now (numbers .entry)) < 128)) ⌝ }
+    ensures { λ r. ⌜ ((p : Plan) → Fair p → now (sets .entry) ≡ setsOf p → now (ends .entry) ≡ endsOf p →
+        r ≡ routeFault p (route start end (now (links .entry))) again many alone) ⌝ }
+    ensures { λ r. ⌜ (r ≡ 0 → (again ≡ false) × (many ≡ false) × (alone ≡ false)) ⌝ }
 {
-    let t = trace(sets, ends, initiator, links, target);
-    if path_range(initiator, target, t.over) {
+    let t = trace(sets, ends, start, links, end);
+    if route_range(start, end, t.over) {
         return 6;
     }
-    if row < ROWS {
-        if bitsets::has(reach[row], target) {
-            return 7;
-        }
+    if again {
+        return 7;
     }
     let nodes = sets[NODES];
-    if !bitsets::has(nodes, initiator) {
+    if !bitsets::has(nodes, start) {
         return 8;
     }
-    if !bitsets::has(nodes, target) {
+    if !bitsets::has(nodes, end) {
         return 8;
     }
     if !bitsets::within(t.set, sets[LINKS]) {
         return 8;
     }
-    if ROWS <= row {
-        return 9;
-    }
-    if MOST_PATHS as u32 <= numbers[PATHS] {
+    if many {
         return 9;
     }
     if !t.walk {
         return 10;
+    }
+    if alone {
+        return 11;
     }
     0
 }

@@ -1,12 +1,16 @@
--- Where a path goes in memory: the row of its initiator, and its place among the paths.
+-- Where a path goes in memory, and where that of a pair stands: the row of its initiator, and its place among the paths.
 use mathlib.Core.Path.{_≡_}
 use Prim.Native.Nat.{ℕ, _+_, _*_, _≤_, _<_}
 use mathlib.Core.List.{List, [], _∷_}
+use mathlib.Core.Option.{some}
 use mathlib.Core.Bool.{Bool, true, false, _&&_, _||_, cond}
 use lib.ListN.{set}
 use lib.Dec.{ltb, eqb}
 use Rattle.lists.specs.Insert.{putIn, pastLast}
-use Rattle.rules_plan.specs.Plan.{nth}
+use Rattle.lists.specs.Place.{atPlace}
+use Rattle.rules_plan.specs.Plan.{nth, Route, Plan}
+use Rattle.rules_plan.specs.Meaning.{hasPath}
+use Rattle.memory_plan.specs.Memory.{pathsInOrder}
 use Rattle.memory_plan.specs.Rows.{rowAmong}
 
 -- where a row of i goes among the first count rows: behind the last with a smaller initiator
@@ -40,3 +44,8 @@ pub record IsPlace (paths : List ℕ) (count i t m : ℕ) : Type 0 where
   pub within : m ≤ count
   pub less : (k : ℕ) → k < m → precedesAt paths i t k ≡ false
   pub more : (k : ℕ) → m ≤ k → k < count → precedesAt paths i t k ≡ true
+
+-- r is the place of the path from i to t, 128 where plan p has none
+pub record PathAt (p : Plan) (i t r : ℕ) : Type 0 where
+  pub found : r < 128 → (x : Route) × (atPlace r (pathsInOrder p) ≡ some x) × (x .start ≡ i) × (x .end ≡ t)
+  pub missed : 128 ≤ r → hasPath p i t ≡ false

@@ -1,2 +1,3 @@
 pub mod OwnRow
 pub mod PathPlace
+pub mod PathOf

@@ -1,12 +1,15 @@
-// Where a path goes: the row of its initiator, which is made where it has none, and its place in the order of writing out.
+// Where a path goes: the row of its initiator, which is made where it has none, and its place in the order of writing out; and where the path
+// of a pair stands.
 ghost use mathlib.Core.Path.{_≡_};
 ghost use mathlib.Core.List.{[], _∷_};
 ghost use Prim.Native.Nat.{ℕ, _≤_, _<_};
 ghost use lib.ListN.{length};
 ghost use Rattle.lists.specs.Insert.{putIn};
+ghost use Rattle.rules_plan.specs.Plan.{Plan};
+ghost use Rattle.rules_plan.specs.laws.Fair.{Fair};
 ghost use Rattle.memory_plan.specs.Rows.{rowAmong};
-ghost use Rattle.load_path_places.specs.Places.{rowPlace, ownRow, withRow, withCount, precedesAt, IsPlace};
-ghost use Rattle.memory_plan.specs.Memory.{initiatorsIn};
+ghost use Rattle.load_path_places.specs.Places.{rowPlace, ownRow, withRow, withCount, precedesAt, IsPlace, PathAt};
+ghost use Rattle.memory_plan.specs.Memory.{pathsOf, initiatorsIn};
 use memory_plan::layout::*;
 
 // Makes a row for a new initiator, at its place among the first count rows, with no path yet; answers the row.
@@ -91,4 +94,23 @@ pub fn place_of(paths: &Paths, count: usize, initiator: u8, target: u8) -> usize
         }
     }
     low
+}
+
+// The place of the path from initiator to target among the first count paths, which stand in order; 128 where there is none.
+pub fn path_of(paths: &Paths, count: usize, initiator: u8, target: u8) -> usize
+    requires { ⌜ count ≤ 128 ⌝ }
+    ensures { λ r. ⌜ (r ≤ 128) × ((p : Plan) → Fair p → now (paths .entry) ≡ pathsOf p → count ≡ length (p .paths) → PathAt p initiator target r) ⌝ }
+{
+    let past = place_of(paths, count, initiator, target);
+    if past == 0 {
+        return MOST_PATHS;
+    }
+    let k = past - 1;
+    if paths[k * PATH] != initiator {
+        return MOST_PATHS;
+    }
+    if paths[k * PATH + PATH_TARGET] != target {
+        return MOST_PATHS;
+    }
+    k
 }

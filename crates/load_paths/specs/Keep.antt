@@ -8,10 +8,6 @@ use Rattle.rules_plan.specs.Plan.{nth, Route}
 use Rattle.memory_plan.specs.Memory.{pathRow}
 use Rattle.load_path_places.specs.Places.{ownRow, withRow, withCount}
 
--- the path, from its numbers
-abbrev pub route : ℕ → ℕ → List ℕ → Route
-route i t ls = record { start = i; end = t; links = ls }
-
 -- with the path: its target in the reach of its row, its eleven bytes at the place m, one path more
 unfoldable pub keptReach : List ℕ → List ℕ → ℕ → Route → List ℕ
 keptReach rows reach count x =

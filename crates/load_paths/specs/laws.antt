@@ -5,3 +5,4 @@ pub mod KeptRows
 pub mod KeptReach
 pub mod KeptPaths
 pub mod KeptPlan
+pub mod Asked

@@ -1,18 +1,22 @@
 // A path: judged after the plan so far, and put at its place in the order of writing out.
 ghost use mathlib.Core.Path.{_≡_};
 ghost use mathlib.Core.List.{[]};
+ghost use mathlib.Core.Bool.{false, _||_};
 ghost use Prim.Native.Nat.{ℕ, _≤_, _<_};
 ghost use lib.ListN.{length};
+ghost use lib.Dec.{leb};
 ghost use lib.Seq.{paste};
 ghost use Rattle.lists.specs.Insert.{moved};
-ghost use Rattle.rules_plan.specs.Plan.{Plan};
+ghost use Rattle.bitsets.specs.Set.{member};
+ghost use Rattle.rules_plan.specs.Plan.{nth, Plan};
 ghost use Rattle.rules_plan.specs.laws.Fair.{Fair};
 ghost use Rattle.memory_plan.specs.Memory.{setsOf, endsOf, rowsOf, reachOf, pathRow, pathsOf, numbersWith, initiatorsIn, pathsIn};
 ghost use Rattle.memory_plan.specs.Take.{itemFault, taken, pathItem};
-ghost use Rattle.load_paths.specs.Keep.{route, keptReach, keptPaths, keptNumbers};
+ghost use Rattle.load_path_faults.specs.Routes.{route};
+ghost use Rattle.load_paths.specs.Keep.{keptReach, keptPaths, keptNumbers};
 ghost use Rattle.memory_plan.specs.Rows.{rowAmong};
 ghost use Rattle.load_path_places.specs.Places.{withRow, IsPlace};
-use load_path_faults::path_fault;
+use load_path_faults::route_fault;
 use load_path_places::own_row;
 use load_path_places::place_of;
 use memory_plan::layout::*;
@@ -21,7 +25,7 @@ use memory_plan::rows::row_among;
 // Moves the bytes from start to end on by those of one path.
 fn make_room(paths: &mut Paths, start: usize, end: usize)
     requires { ⌜ (start ≤ end) × (end ≤ 1397) ⌝ }
-    ensures { λ _. ⌜ (length (now (paths .entry)) ≡ 1408 → now (paths .exit) ≡ moved 11 start end (now (paths .entry))) ⌝ }
+    ensures { λ _. ⌜ (length (now (paths .entry)) ≡ 2816 → now (paths .exit) ≡ moved 11 start end (now (paths .entry))) ⌝ }
 {
     let mut n = end;
     while start < n {
@@ -30,10 +34,10 @@ fn make_room(paths: &mut Paths, start: usize, end: usize)
     }
 }
 
-// Stores the bytes of a path at a place.
-fn store_path(paths: &mut Paths, at: usize, initiator: u8, target: u8, links: &[u8])
-    requires { ⌜ (at ≤ 1397) × (length (now links) ≤ 8) ⌝ }
-    ensures { λ _. ⌜ (length (now (paths .entry)) ≡ 1408 →
+// Stores the row of a path, or of a reply, at a place: its initiator and its target first.
+pub fn store_path(paths: &mut Paths, at: usize, initiator: u8, target: u8, links: &[u8])
+    requires { ⌜ (at ≤ 2805) × (length (now links) ≤ 8) ⌝ }
+    ensures { λ _. ⌜ (length (now (paths .entry)) ≡ 2816 →
         now (paths .exit) ≡ paste (now (paths .entry)) at (pathRow (route initiator target (now (links .entry)))) 11) ⌝ }
 {
     let n = links.len();
@@ -63,7 +67,7 @@ fn keep_path(
     links: &[u8],
 )
     requires { ⌜ (row ≡ rowAmong (now rows) (initiatorsIn (now numbers)) initiator) × (row < 8) × (pathsIn (now numbers) < 128) × (length (now links) ≤ 8) ⌝ }
-    ensures { λ _. ⌜ (length (now (rows .entry)) ≡ 8 → length (now (reach .entry)) ≡ 8 → length (now (paths .entry)) ≡ 1408 →
+    ensures { λ _. ⌜ (length (now (rows .entry)) ≡ 8 → length (now (reach .entry)) ≡ 8 → length (now (paths .entry)) ≡ 2816 →
         (now (rows .exit) ≡ withRow (now (rows .entry)) (initiatorsIn (now (numbers .entry))) initiator initiator (now (rows .entry)))
         × (now (reach .exit) ≡ keptReach (now (rows .entry)) (now (reach .entry)) (initiatorsIn (now (numbers .entry))) (route initiator target (now (links .entry))))
         × ((m : ℕ) → IsPlace (now (paths .entry)) (pathsIn (now (numbers .entry))) initiator target m →
@@ -80,8 +84,28 @@ fn keep_path(
     numbers[PATHS] = count + 1;
 }
 
-// The verdict on the path, 0 for none, and then rows, reach, paths and numbers have it. No entry and no times are there yet, and a path has
-// eight links at most.
+// Whether the row reaches the target: there is a path of that pair. Beyond the eighth there is no row.
+fn reaches(reach: &Reach, row: usize, target: u8) -> bool
+    ensures { λ r. ⌜ (8 ≤ row → r ≡ false) × (row < 8 → r ≡ member target (nth (now (reach .entry)) row)) ⌝ }
+{
+    if ROWS <= row {
+        return false;
+    }
+    bitsets::has(reach[row], target)
+}
+
+// Whether one path more is too many: its initiator would be the ninth, or itself the 129th.
+fn too_many(numbers: &Numbers, row: usize) -> bool
+    ensures { λ r. ⌜ r ≡ (leb 8 row || leb 128 (pathsIn (now (numbers .entry)))) ⌝ }
+{
+    if ROWS <= row {
+        return true;
+    }
+    MOST_PATHS as u32 <= numbers[PATHS]
+}
+
+// The verdict on the path, 0 for none, and then rows, reach, paths and numbers have it. No entry, no times and no reply are there yet, and a
+// path has eight links at most.
 pub fn path(
     sets: &Sets,
     ends: &Ends,
@@ -95,7 +119,8 @@ pub fn path(
 ) -> u8
     requires { ⌜ length (now links) ≤ 8 ⌝ }
     ensures { λ r. ⌜ ((size : ℕ) (p : Plan) → Fair p → now (sets .entry) ≡ setsOf p → now (ends .entry) ≡ endsOf p →
-        now (rows .entry) ≡ rowsOf p → now (reach .entry) ≡ reachOf p → now (paths .entry) ≡ pathsOf p → now (numbers .entry) ≡ numbersWith size p → p .times ≡ [] →
+        now (rows .entry) ≡ rowsOf p → now (reach .entry) ≡ reachOf p → now (paths .entry) ≡ pathsOf p → now (numbers .entry) ≡ numbersWith size p →
+        p .times ≡ [] → p .replies ≡ [] →
         (r ≡ itemFault p (pathItem initiator target (now (links .entry))))
         × (now (rows .exit) ≡ rowsOf (taken p (pathItem initiator target (now (links .entry)))))
         × (now (reach .exit) ≡ reachOf (taken p (pathItem initiator target (now (links .entry)))))
@@ -103,17 +128,9 @@ pub fn path(
         × (now (numbers .exit) ≡ numbersWith size (taken p (pathItem initiator target (now (links .entry)))))) ⌝ }
 {
     let row = row_among(rows, numbers[INITIATORS], initiator);
-    let fault = path_fault(
-        sets,
-        ends,
-        rows,
-        reach,
-        numbers,
-        row,
-        initiator,
-        target,
-        links,
-    );
+    let again = reaches(reach, row, target);
+    let many = too_many(numbers, row);
+    let fault = route_fault(sets, ends, initiator, links, target, again, many, false);
     if fault != 0 {
         return fault;
     }

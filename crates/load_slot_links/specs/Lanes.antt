@@ -2,7 +2,7 @@
 use mathlib.Core.Path.{_≡_}
 use mathlib.Core.List.{List}
 use mathlib.Core.Option.{none}
-use mathlib.Core.Bool.{Bool, true, false, _&&_}
+use mathlib.Core.Bool.{Bool, true, false, _&&_, _||_}
 use Prim.Native.Nat.{ℕ, _+_, _-_, _*_, _%_, min}
 use lib.ListN.{getD, take, drop}
 use lib.Dec.{ltb, eqb}
@@ -28,14 +28,14 @@ placeBack row slot back = elim (ltb back 16) [ true ↦ row * 64 + (slot + 64 - 
 abbrev pub coverPlace : List ℕ → ℕ → ℕ → ℕ
 coverPlace spans row slot = placeBack row slot (firstFrom 16 0 (coversFrom spans row slot))
 
--- the links of path number k
+-- the links of row number k
 unfoldable pub linksAt : List ℕ → ℕ → List ℕ
 linksAt paths k = take (min 8 (getD paths (k * 11 + 2) 0)) (drop (k * 11 + 3) paths)
 
--- path number k leads from the initiator to one of the targets, and over link l
+-- path number k leads from the initiator to one of the targets, and it or its reply's own way over link l
 unfoldable pub leadsOver : List ℕ → ℕ → ℕ → ℕ → ℕ → Bool
 leadsOver paths initiator targets l k =
-    eqb (getD paths (k * 11) 0) initiator && (member (getD paths (k * 11 + 1) 0) targets && listed (linksAt paths k) l)
+    eqb (getD paths (k * 11) 0) initiator && (member (getD paths (k * 11 + 1) 0) targets && (listed (linksAt paths k) l || listed (linksAt paths (128 + k)) l))
 
 -- the links that the initiator of a row may use in a slot, as a set; and those of the eight rows
 unfoldable pub laneOf : Plan → ℕ → ℕ → ℕ

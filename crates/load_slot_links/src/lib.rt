@@ -26,9 +26,9 @@ fn covering(spans: &Spans, row: usize, slot: usize) -> usize
     512
 }
 
-// The links of path number k.
+// The links of row number k: of a path, or of its reply.
 fn path_links(paths: &[u8], k: usize) -> u64
-    requires { ⌜ (k < 128) × (length (now paths) ≡ 1408) ⌝ }
+    requires { ⌜ (k < 256) × (length (now paths) ≡ 2816) ⌝ }
     ensures { λ r. ⌜ ((l : ℕ) → member l r ≡ listed (linksAt (now (paths .entry)) k) l) ⌝ }
 {
     let start = k * PATH + PATH_LINKS;
@@ -36,7 +36,7 @@ fn path_links(paths: &[u8], k: usize) -> u64
     bitsets::set_of(&paths[start..end])
 }
 
-// The links, with those of path number k if it leads from the initiator to one of the targets.
+// The links, with those of path number k, and of its reply's own way, if it leads from the initiator to one of the targets.
 fn with_path(paths: &Paths, initiator: u8, targets: u64, links: u64, k: usize) -> u64
     requires { ⌜ k < 128 ⌝ }
     ensures { λ r. ⌜ ((l : ℕ) → member l r ≡ (member l links || leadsOver (now (paths .entry)) initiator targets l k)) ⌝ }
@@ -45,7 +45,8 @@ fn with_path(paths: &Paths, initiator: u8, targets: u64, links: u64, k: usize) -
         return links;
     }
     if bitsets::has(targets, paths[k * PATH + PATH_TARGET]) {
-        return bitsets::union(links, path_links(paths, k));
+        let ways = bitsets::union(path_links(paths, k), path_links(paths, REPLIES + k));
+        return bitsets::union(links, ways);
     }
     links
 }

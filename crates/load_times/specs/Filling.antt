@@ -1,6 +1,7 @@
--- `numbers` while the fixed times of the paths are stored: those of the first k paths, in the order of memory, behind twelve numbers.
+-- `numbers` while the fixed times of the paths are stored: those of the first k paths, in the order of memory, behind twelve numbers. No reply is
+-- there yet, so that each comes home over its path.
 use mathlib.Core.Path.{_≡_}
-use mathlib.Core.List.{List, _++_}
+use mathlib.Core.List.{List, [], _++_}
 use Prim.Native.Nat.{ℕ}
 use lib.ListN.{length, take}
 use Rattle.rules_plan.specs.Plan.{nth, Times, Plan}
@@ -11,4 +12,5 @@ pub record Filling (p : Plan) (x : Times) (front : List ℕ) (k : ℕ) (numbers�
   pub twelve : length front ≡ 12
   pub rows : nth front 2 ≡ length (initiators p)
   pub paths : nth front 3 ≡ length (p .paths)
-  pub numbers : numbers′ ≡ front ++ costsAmong p x (take k (pathsInOrder p))
+  pub no-replies : p .replies ≡ []
+  pub numbers : numbers′ ≡ front ++ costsAmong p x (p .replies) (take k (pathsInOrder p))

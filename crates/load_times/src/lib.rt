@@ -1,7 +1,7 @@
 // The times that a plan carries: judged, and kept with the fixed time of every path by the rate, so that no event divides.
 ghost use mathlib.Core.Path.{_≡_};
 ghost use mathlib.Core.List.{List, []};
-ghost use Prim.Native.Nat.{ℕ, _+_, _-_, _<_};
+ghost use Prim.Native.Nat.{ℕ, _+_, _<_};
 ghost use lib.ListN.{length};
 ghost use Rattle.rules_plan.specs.Plan.{Plan};
 ghost use Rattle.rules_plan.specs.laws.Fair.{Fair};
@@ -16,16 +16,7 @@ use memory_plan::rows::row_among;
 use time_sheet::MOST_TIME;
 use time_sheet::cost;
 use time_sheet::out_of_range;
-
-// "R routers (links less one)"
-fn routers_over(links: u8) -> u8
-    ensures { λ r. ⌜ r ≡ links - 1 ⌝ }
-{
-    if links == 0 {
-        return 0;
-    }
-    links - 1
-}
+use time_sheet::routers_over;
 
 // Stores the fixed time by the rate of path number k, in the cell of its row and target.
 fn put_cost(
@@ -92,17 +83,17 @@ pub fn times(
     slot: u32,
 ) -> u8
     ensures { λ r. ⌜ ((size : ℕ) (p : Plan) → Fair p → now (rows .entry) ≡ rowsOf p → now (paths .entry) ≡ pathsOf p → now (numbers .entry) ≡ numbersWith size p →
-        p .times ≡ [] →
+        p .times ≡ [] → p .replies ≡ [] →
         (r ≡ itemFault p (timesItem rate a d f g slot))
         × (now (numbers .exit) ≡ numbersWith size (taken p (timesItem rate a d f g slot)))) ⌝ }
 {
-    if out_of_range(rate, a, d, f, g) {
+    let pace = rate as u32;
+    if out_of_range(pace, a, d, f, g) {
         return 6;
     }
     if MOST_TIME < slot {
         return 6;
     }
-    let pace = rate as u32;
     numbers[RATE] = pace;
     numbers[LATENCY_A] = a;
     numbers[LATENCY_D] = d;

@@ -2,7 +2,7 @@
 -- So equal plans have equal memory, and the memory of no plan, all 0, is that of the blank plan.
 use mathlib.Core.Path.{_≡_}
 use Prim.Native.Nat.{ℕ, _+_, _*_, _/_, _%_, min, max}
-use mathlib.Core.List.{List, [], _∷_, flatMap}
+use mathlib.Core.List.{List, [], _∷_, _++_, map, flatMap}
 use mathlib.Core.Option.{Option, none, some}
 use mathlib.Core.Bool.{cond}
 use lib.ListN.{length}
@@ -14,7 +14,7 @@ use Rattle.lists.specs.Cells.{cells, padded}
 use Rattle.bitsets.specs.Set.{packed}
 use Rattle.rules_plan.specs.Plan.{nth, Link, Route, Entry, Times, Plan}
 use Rattle.rules_plan.specs.Sheet.{fixedTime}
-use Rattle.rules_plan.specs.Meaning.{hasKind, isLink, leadsFrom, hasPath, initiators, routers, entryAt, leastOf, greatestOf, timesOf}
+use Rattle.rules_plan.specs.Meaning.{hasKind, isLink, leadsFrom, hasPath, initiators, homeOf, routers, entryAt, leastOf, greatestOf, timesOf}
 use Rattle.rules_plan.specs.Canon.{written}
 
 -- `sets`: the nodes, the routers and the links that are given, each a word
@@ -41,15 +41,33 @@ ofRow p r f = elim (atPlace r (initiators p)) [ none ↦ 0 | some i ↦ f i ]
 unfoldable pub reachOf : Plan → List ℕ
 reachOf p = cells 8 (λ (r : ℕ). ofRow p r (λ (i : ℕ). packed (hasPath p i)))
 
--- `paths`: eleven bytes for each path, in the order of writing out: initiator, target, number of links, eight places for the links
+-- `paths`: eleven bytes for each path, in the order of writing out: initiator, target, number of links, eight places for the links; and behind
+-- them, in a second list of as many places, those of the replies that come home another way, each at the place of its path
 unfoldable pub pathRow : Route → List ℕ
 pathRow x = x .start ∷ x .end ∷ length (x .links) ∷ padded 8 0 (x .links)
 
 unfoldable pub pathsInOrder : Plan → List Route
 pathsInOrder p = inOrder (λ (x : Route). x .start) (inOrder (λ (x : Route). x .end) (p .paths))
 
+-- the reply of path x, among the replies ys, as its row has it: the initiator first; a row of 0 where it has none
+unfoldable pub turned : Route → Route
+turned y = record { start = y .end; end = y .start; links = y .links }
+
+unfoldable pub noRoute : Route
+noRoute = record { start = 0; end = 0; links = [] }
+
+unfoldable pub replyOf : List Route → Route → Route
+replyOf ys x = elim (find (leadsFrom (x .end) (x .start)) ys) [ none ↦ noRoute | some y ↦ turned y ]
+
+unfoldable pub repliesInOrder : Plan → List Route
+repliesInOrder p = map (replyOf (p .replies)) (pathsInOrder p)
+
+-- a list of 128 places
+unfoldable pub placesFor : List Route → List ℕ
+placesFor xs = padded 1408 0 (flatMap pathRow xs)
+
 unfoldable pub pathsOf : Plan → List ℕ
-pathsOf p = padded 1408 0 (flatMap pathRow (pathsInOrder p))
+pathsOf p = placesFor (pathsInOrder p) ++ placesFor (repliesInOrder p)
 
 -- `spans` and `aims`: at 64 × row + slot the span of the entry that stands there, 0 for none, and the set of its targets
 unfoldable pub spanOf : Option Entry → ℕ
@@ -67,16 +85,16 @@ unfoldable pub aimsOf : Plan → List ℕ
 aimsOf p = cells 512 (λ (n : ℕ). ofRow p (n / 64) (λ (i : ℕ). aimOf (entryAt (p .entries) i (n % 64))))
 
 -- the fixed time of a path by the rate, 0 where there is none; and at 64 × row + target that of the path from the row's initiator, with the
--- times x and among the paths xs
-unfoldable pub costOf : Times → Option Route → ℕ
-costOf x none = 0
-costOf x (some r) = x .rate * fixedTime x (routers r) (routers r)
+-- times x and among the replies ys and the paths xs
+unfoldable pub costOf : Times → List Route → Option Route → ℕ
+costOf x ys none = 0
+costOf x ys (some r) = x .rate * fixedTime x (routers r) (routers (homeOf ys r))
 
-unfoldable pub costsAmong : Plan → Times → List Route → List ℕ
-costsAmong p x xs = cells 512 (λ (n : ℕ). ofRow p (n / 64) (λ (i : ℕ). costOf x (find (leadsFrom i (n % 64)) xs)))
+unfoldable pub costsAmong : Plan → Times → (ys xs : List Route) → List ℕ
+costsAmong p x ys xs = cells 512 (λ (n : ℕ). ofRow p (n / 64) (λ (i : ℕ). costOf x ys (find (leadsFrom i (n % 64)) xs)))
 
 abbrev pub costsOf : Plan → List ℕ
-costsOf p = costsAmong p (timesOf (p .times)) (p .paths)
+costsOf p = costsAmong p (timesOf (p .times)) (p .replies) (p .paths)
 
 -- `numbers`: least and greatest interval, how many initiators, paths and entries there are, and the size of the plan written out; the rate,
 -- the latencies, a slot by the rate, and the fixed times. A plan that is accepted has a greatest interval of 1 at least: that it is not 0

@@ -4,7 +4,7 @@ use mathlib.Core.List.{List}
 use mathlib.Core.Bool.{cond}
 use lib.Dec.{eqb}
 use Rattle.lists.specs.Rows.{firstOf}
-use Rattle.rules_plan.specs.Plan.{Plan, Item, device, link, path, entry, timing, times, grow}
+use Rattle.rules_plan.specs.Plan.{Plan, Item, device, link, path, entry, timing, times, reply, grow}
 use Rattle.rules_plan.specs.Judge.{itemRows}
 
 -- verdicts 6 to 11 of an item after plan p, 0 for none
@@ -24,6 +24,10 @@ linkItem n a b = link (record { num = n; one = a; other = b })
 
 abbrev pub pathItem : ℕ → ℕ → List ℕ → Item
 pathItem i t ls = path (record { start = i; end = t; links = ls })
+
+-- a reply by its initiator and its target: it starts at the target
+abbrev pub replyItem : ℕ → ℕ → List ℕ → Item
+replyItem i t ls = reply (record { start = t; end = i; links = ls })
 
 abbrev pub entryItem : ℕ → ℕ → ℕ → List ℕ → Item
 entryItem i s n ts = entry (record { initiator = i; slot = s; span = n; targets = ts })

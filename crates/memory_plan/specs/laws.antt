@@ -3,6 +3,7 @@ pub mod Costs
 pub mod SameMemory
 pub mod InRows
 pub mod PathRows
+pub mod Replies
 pub mod ToldPlan
 pub mod ToldEntries
 pub mod OneMemory

@@ -27,8 +27,11 @@ pub type Rows = [u8; ROWS];
 // `reach`: for each row the targets to which there is a path.
 pub type Reach = [u64; ROWS];
 
-// `paths`: a row of bytes for each path: initiator, target, how many links, the links.
+// `paths`: a row of bytes for each path: initiator, target, how many links, the links; and REPLIES rows behind it that of its reply, where it
+// comes home another way, else 0.
 pub const MOST_PATHS: usize = 128;
+
+pub const REPLIES: usize = 128;
 
 pub const PATH: usize = 11;
 
@@ -40,7 +43,7 @@ pub const PATH_LINKS: usize = 3;
 
 pub const MOST_LINKS: usize = 8;
 
-pub const PATH_BYTES: usize = 1408;
+pub const PATH_BYTES: usize = 2816;
 
 pub type Paths = [u8; PATH_BYTES];
 

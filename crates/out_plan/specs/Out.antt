@@ -11,7 +11,7 @@ use Rattle.rules_plan.specs.Plan.{nth, Plan}
 use Rattle.rules_plan.specs.Copy.{copyAnswer, copied}
 use Rattle.memory_plan.specs.PlanHeld.{PlanHeld}
 use Rattle.out_items.specs.Out.{deviceBytes, linkBytes, timingBytes, timesBytes}
-use Rattle.out_rows.specs.Out.{pathBytes, entryBytes}
+use Rattle.out_rows.specs.Out.{rowBytes, entryBytes}
 
 -- the contract of `write_out`, of memory that a clear or a load left; it is not lent `reach`, which it need not read
 abbrev pub WritesOut : (sets ends rows paths spans aims numbers out : List ℕ) → Copied → (out′ : List ℕ) → Type 0
@@ -24,7 +24,8 @@ unfoldable pub outBytes : (sets ends rows paths spans aims numbers : List ℕ) �
 outBytes sets ends rows paths spans aims numbers =
     flatMap (deviceBytes (nth sets 0) (nth sets 1)) below64
     ++ flatMap (linkBytes (nth sets 2) ends) below64
-    ++ flatMap (pathBytes paths) (upFrom (min (nth numbers 3) 128) 0)
+    ++ flatMap (rowBytes 3 paths 0) (upFrom (min (nth numbers 3) 128) 0)
     ++ flatMap (entryBytes rows spans aims) (upFrom (64 * min (nth numbers 2) 8) 0)
     ++ timingBytes (nth numbers 0) (nth numbers 1)
     ++ timesBytes numbers
+    ++ flatMap (rowBytes 7 paths 128) (upFrom (min (nth numbers 3) 128) 0)

@@ -34,7 +34,8 @@ pub fn write_out(
     }
     let devices = put_devices(out, 0, sets[NODES], sets[ROUTERS]);
     let links = put_links(out, devices, sets[LINKS], ends);
-    let routes = put_paths(out, links, paths, at_most(numbers[PATHS], MOST_PATHS));
+    let count = at_most(numbers[PATHS], MOST_PATHS);
+    let routes = put_paths(out, links, paths, 3, 0, count);
     let entries = put_entries(
         out,
         routes,
@@ -44,6 +45,7 @@ pub fn write_out(
         SLOTS * at_most(numbers[INITIATORS], ROWS),
     );
     let timing = put_timing(out, entries, numbers[LEAST], numbers[GREATEST]);
-    put_times(out, timing, numbers);
+    let times = put_times(out, timing, numbers);
+    put_paths(out, times, paths, 7, REPLIES, count);
     Copied::Written { size }
 }

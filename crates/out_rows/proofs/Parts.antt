@@ -20,7 +20,7 @@ use Rattle.bitsets.specs.Laws.{least-in, size-le}
 use Rattle.bitsets.specs.Walk.{Walk, walk-low}
 use Rattle.rules_plan.specs.Plan.{nth}
 use Rattle.rules_plan.specs.Fields.{tagFor, contentFor, fieldFor}
-use Rattle.out_rows.specs.Out.{linksFrom, pathBytes, rises, entryBytes}
+use Rattle.out_rows.specs.Out.{linksFrom, routeField, pathBytes, rises, entryBytes}
 
 -- a field is its start and the rest: where it has no room nothing is asked, else the one is put behind the other
 module _ (start rest : List ℕ) {bytes : List ℕ} (e : bytes ≡ start ++ rest) {l o : List ℕ} {i k : ℕ} where
@@ -50,33 +50,33 @@ module _ (paths : List ℕ) where
     pub links-all : (count : ℕ) → j ≡ count → Put l i (linksFrom paths start count) o (i + j)
     links-all count e = rw (← e) f
 
-  module _ (n : ℕ) where
+  module _ (tag n : ℕ) where
     -- a row that is unused, and a row that no plan has
-    pub no-path : (l : List ℕ) (i : ℕ) → nth paths (11 * n + 2) ≡ 0 → Puts l i (pathBytes paths n) l i
+    pub no-path : (l : List ℕ) (i : ℕ) → nth paths (11 * n + 2) ≡ 0 → Puts l i (pathBytes tag paths n) l i
     unfolding pathBytes
     no-path l i e = rw e (puts-none l i)
 
-    pub no-row : (l : List ℕ) (i : ℕ) → 8 < nth paths (11 * n + 2) → Puts l i (pathBytes paths n) l i
+    pub no-row : (l : List ℕ) (i : ℕ) → 8 < nth paths (11 * n + 2) → Puts l i (pathBytes tag paths n) l i
     unfolding pathBytes
     no-row l i h = rw (lt-ltb 8 (nth paths (11 * n + 2)) h) (puts-none l i)
 
     -- tag, number of bytes, initiator and target; then the links
     abbrev pathStart : ℕ → List ℕ
-    pathStart count = 3 ∷ 0 ∷ (2 + count) ∷ nth paths (11 * n) ∷ nth paths (11 * n + 1) ∷ []
+    pathStart count = tag ∷ 0 ∷ (2 + count) ∷ nth paths (11 * n) ∷ nth paths (11 * n + 1) ∷ []
 
     module _ {count : ℕ} (e : count ≡ nth paths (11 * n + 2)) (some : count ≡ 0 → ⊥) (few : count ≤ 8) where
       -- at most ten bytes, whose number has no high byte, behind the tag and the number
-      path-is : pathBytes paths n ≡ pathStart count ++ linksFrom paths (11 * n + 3) count
-      unfolding pathBytes fieldFor tagFor contentFor
+      path-is : pathBytes tag paths n ≡ pathStart count ++ linksFrom paths (11 * n + 3) count
+      unfolding pathBytes routeField
       path-is =
           let high : suc (suc count) / 256 ≡ 0 = omega arith in
           let low : suc (suc count) % 256 ≡ 2 + count = omega arith in
           rw (← e, le-ltb 8 count few, ne-eqb count 0 some, links-length count (11 * n + 3), high, low)
 
-      pub path-over : {l o : List ℕ} {i k : ℕ} → length l < i + (5 + count) → Puts l i (pathBytes paths n) o k
+      pub path-over : {l o : List ℕ} {i k : ℕ} → length l < i + (5 + count) → Puts l i (pathBytes tag paths n) o k
       path-over h = field-over (pathStart count) (linksFrom paths (11 * n + 3) count) path-is (omega (arith, links-length count (11 * n + 3)))
 
-      pub path-puts : {l o p : List ℕ} {i k m : ℕ} → Put l i (pathStart count) o k → Put o k (linksFrom paths (11 * n + 3) count) p m → Puts l i (pathBytes paths n) p m
+      pub path-puts : {l o p : List ℕ} {i k m : ℕ} → Put l i (pathStart count) o k → Put o k (linksFrom paths (11 * n + 3) count) p m → Puts l i (pathBytes tag paths n) p m
       path-puts a b = field-puts (pathStart count) (linksFrom paths (11 * n + 3) count) path-is a b
 
 -- a member of a set

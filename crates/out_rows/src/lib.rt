@@ -1,4 +1,4 @@
-// Paths and entries in memory as fields of a file again, row by row and cell by cell, in a lent buffer.
+// Paths, replies and entries in memory as fields of a file again, row by row and cell by cell, in a lent buffer.
 // No function here stores a byte that has no room, whatever the memory holds.
 ghost use mathlib.Core.Path.{_≡_};
 ghost use mathlib.Core.List.{flatMap};
@@ -9,7 +9,7 @@ ghost use Rattle.lists.specs.Search.{upFrom};
 ghost use Rattle.lists.specs.Stores.{Put};
 ghost use Rattle.lists.specs.Puts.{Puts};
 ghost use Rattle.rules_plan.specs.Plan.{nth};
-ghost use Rattle.out_rows.specs.Out.{linksFrom, pathBytes, rises, entryBytes, eightBytes};
+ghost use Rattle.out_rows.specs.Out.{linksFrom, pathBytes, rowBytes, rises, entryBytes, eightBytes};
 use bitsets::least;
 use bitsets::size;
 use bitsets::without_least;
@@ -19,7 +19,7 @@ use memory_plan::layout::*;
 
 // The links from a place of memory on, count of them. The loop says too that they are at most eight: the compiler then makes no loop for long copies.
 fn put_path_links(out: &mut [u8], at: usize, paths: &Paths, start: usize, count: usize) -> usize
-    requires { ⌜ (count ≤ 8) × (start + count ≤ 1408) × (at + count ≤ length (now out)) ⌝ }
+    requires { ⌜ (count ≤ 8) × (start + count ≤ 2816) × (at + count ≤ length (now out)) ⌝ }
     ensures { λ r. ⌜ Put (now (out .entry)) at (linksFrom (now (paths .entry)) start count) (now (out .exit)) r ⌝ }
 {
     let mut i = 0;
@@ -33,10 +33,10 @@ fn put_path_links(out: &mut [u8], at: usize, paths: &Paths, start: usize, count:
     at + i
 }
 
-// The path of row n, where it has one to eight links: in no row of a plan are there more.
-fn put_path(out: &mut [u8], at: usize, paths: &Paths, n: usize) -> usize
-    requires { ⌜ n < 128 ⌝ }
-    ensures { λ r. ⌜ Puts (now (out .entry)) at (pathBytes (now (paths .entry)) n) (now (out .exit)) r ⌝ }
+// The route of row n under a tag, where it has one to eight links: in no row of a plan are there more, and a row without is of no reply.
+fn put_path(out: &mut [u8], at: usize, paths: &Paths, tag: u8, n: usize) -> usize
+    requires { ⌜ n < 256 ⌝ }
+    ensures { λ r. ⌜ Puts (now (out .entry)) at (pathBytes tag (now (paths .entry)) n) (now (out .exit)) r ⌝ }
 {
     let row = PATH * n;
     let count = wide(paths[row + PATH_COUNT]);
@@ -57,20 +57,27 @@ fn put_path(out: &mut [u8], at: usize, paths: &Paths, n: usize) -> usize
     // At most ten bytes: their number has no high byte.
     let initiator = paths[row];
     let target = paths[row + PATH_TARGET];
-    let start = [3, 0, 2 + count as u8, initiator, target];
+    let start = [tag, 0, 2 + count as u8, initiator, target];
     let k = put_bytes(out, at, &start);
     put_path_links(out, k, paths, row + PATH_LINKS, count)
 }
 
-// The paths of the first rows, row by row.
-pub fn put_paths(out: &mut [u8], at: usize, paths: &Paths, rows: usize) -> usize
-    requires { ⌜ rows ≤ 128 ⌝ }
-    ensures { λ r. ⌜ Puts (now (out .entry)) at (flatMap (pathBytes (now (paths .entry))) (upFrom rows 0)) (now (out .exit)) r ⌝ }
+// The routes of so many rows from the first on, row by row.
+pub fn put_paths(
+    out: &mut [u8],
+    at: usize,
+    paths: &Paths,
+    tag: u8,
+    first: usize,
+    rows: usize,
+) -> usize
+    requires { ⌜ first + rows ≤ 256 ⌝ }
+    ensures { λ r. ⌜ Puts (now (out .entry)) at (flatMap (rowBytes tag (now (paths .entry)) first) (upFrom rows 0)) (now (out .exit)) r ⌝ }
 {
     let mut k = at;
     let mut n = 0;
     while n < rows {
-        k = put_path(out, k, paths, n);
+        k = put_path(out, k, paths, tag, first + n);
         n += 1;
     }
     k

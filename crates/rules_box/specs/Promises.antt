@@ -50,7 +50,7 @@ pub record NeverLoaded (b : Box) (w : Watchdog) : Type 0 where
 unfoldable pub ClearIsNeverLoaded : Type 0
 ClearIsNeverLoaded = (b : Box) (w : Watchdog) → NeverLoaded b w ↔ ((b ≡ cleared) × (w ≡ watchdogCleared))
 
--- Demand 3, links. The links that a live transaction runs on.
+-- Demand 3, links. The links that a live transaction runs on; T-03: "the shared-link part of demand 3" reads both sets.
 unfoldable pub runs : Plan → ℕ → Live → ℕ → Bool
 runs p i x l = uses p i (x .request .target) l
 

@@ -5,7 +5,7 @@ use mathlib.Core.Path.{_≡_}
 use mathlib.Core.List.{List, [], _∷_, _++_, map, flatMap}
 use Rattle.rules_plan.specs.declared.Sheet.{Sheet}
 use Rattle.rules_plan.specs.declared.Sheet.the-variants.{NoSheet, Terms}
-use Rattle.rules_plan.specs.Plan.{Times, Item, device, link, path, entry, timing, times}
+use Rattle.rules_plan.specs.Plan.{Times, Item, device, link, path, entry, timing, times, reply}
 use Rattle.rules_plan.specs.Fields.{fieldFor}
 use Rattle.rules_plan.specs.Sheet.{sheetAnswer}
 use Rattle.rules_plan.specs.Judge.{judge}
@@ -30,6 +30,10 @@ joins n a b = link (record { num = n; one = a; other = b })
 
 unfoldable pub route : ℕ → ℕ → List ℕ → Item
 route i t ls = path (record { start = i; end = t; links = ls })
+
+-- a reply of initiator i from target t
+unfoldable pub home : ℕ → ℕ → List ℕ → Item
+home i t ls = reply (record { start = t; end = i; links = ls })
 
 unfoldable pub at : ℕ → ℕ → ℕ → List ℕ → Item
 at i s n ts = entry (record { initiator = i; slot = s; span = n; targets = ts })
@@ -56,17 +60,28 @@ onlyTiming = 0x05 ∷ 0x00 ∷ 0x08 ∷ 0x00 ∷ 0x00 ∷ 0x00 ∷ 0x5A ∷ 0x00
 unfoldable pub fiveThousandEach : ℕ → Times
 fiveThousandEach slot = record { rate = 200; a = 5_000; d = 5_000; f = 5_000; g = 5_000; slot = slot }
 
--- a path over four routers, and an entry of span 1, in a plan that carries these times with a slot length
+-- a path over four routers and a link that leads straight back, and an entry of span 1, in a plan that carries these times with a slot length
 unfoldable pub overFour : ℕ → List ℕ
 overFour slot =
     flatMap fieldFor
     (node 1 ∷ node 2 ∷ router 10 ∷ router 11 ∷ router 12 ∷ router 13
-    ∷ joins 0 1 10 ∷ joins 1 10 11 ∷ joins 2 11 12 ∷ joins 3 12 13 ∷ joins 4 13 2
+    ∷ joins 0 1 10 ∷ joins 1 10 11 ∷ joins 2 11 12 ∷ joins 3 12 13 ∷ joins 4 13 2 ∷ joins 5 1 2
     ∷ route 1 2 (0 ∷ 1 ∷ 2 ∷ 3 ∷ 4 ∷ [])
     ∷ at 1 0 1 (2 ∷ [])
     ∷ timing (record { least = 90; greatest = 110 })
     ∷ times (fiveThousandEach slot)
     ∷ [])
+
+-- two initiators and one target, each with its path, which share no link; and replies
+unfoldable pub twoWays : List Item → List ℕ
+twoWays replies =
+    flatMap fieldFor
+    (node 1 ∷ node 2 ∷ node 3 ∷ router 10 ∷ router 11
+    ∷ joins 0 1 10 ∷ joins 1 2 11 ∷ joins 2 10 3 ∷ joins 3 11 3 ∷ joins 4 10 11
+    ∷ route 1 3 (0 ∷ 2 ∷ []) ∷ route 2 3 (1 ∷ 3 ∷ [])
+    ∷ at 1 0 1 (3 ∷ []) ∷ at 2 0 1 (3 ∷ [])
+    ∷ timing (record { least = 90; greatest = 110 })
+    ∷ replies)
 
 -- what is done: a file is judged; a file is loaded and events follow, each with room for 17 records; or the sheet is asked for
 pub data Given : Type 0 where
@@ -150,7 +165,21 @@ samples =
     ∷ requests (overFour 26_649) (0 ∷ []) (Refused 25 ∷ [])
     -- T-02: "A plan with no entry must not be accepted"; one that permits nothing is an entry
     ∷ row (planA []) "REFUSED 15 101\n"
-    ∷ row (overFour 26_649) "ACCEPTED 6 5 1 1\n"
+    ∷ row (overFour 26_649) "ACCEPTED 6 6 1 1\n"
+    -- T-03: without a reply; "links walked from target back to initiator", the command's own, and from the initiator; no path; given before
+    ∷ row (twoWays []) "ACCEPTED 5 5 2 2\n"
+    ∷ row (twoWays (home 1 3 (2 ∷ 0 ∷ []) ∷ [])) "ACCEPTED 5 5 2 2\n"
+    ∷ row (twoWays (home 1 3 (0 ∷ 2 ∷ []) ∷ [])) "REFUSED 10 94\n"
+    ∷ row (twoWays (home 2 1 (0 ∷ 4 ∷ 1 ∷ []) ∷ [])) "REFUSED 11 94\n"
+    ∷ row (twoWays (home 1 3 (2 ∷ 0 ∷ []) ∷ home 1 3 (2 ∷ 0 ∷ []) ∷ [])) "REFUSED 7 101\n"
+    -- "A transaction uses both sets of links": 1's reply on 2's way out; and 2's reply on 1's way out, the least link of the three that they share
+    ∷ row (twoWays (home 1 3 (3 ∷ 4 ∷ 0 ∷ []) ∷ [])) "REFUSED 14 0 1 2 3\n"
+    ∷ row (twoWays (home 1 3 (3 ∷ 4 ∷ 0 ∷ []) ∷ home 2 3 (2 ∷ 4 ∷ 1 ∷ []) ∷ [])) "REFUSED 14 0 1 2 2\n"
+    -- "T-01 takes R of each way for its own terms (P by the reply's R)": four routers out and none home, and the other way round
+    ∷ record { given = asked (fiveThousandEach 0) 4 0 256; shown = terms (Terms 36_650 2_400 1_000 12_850 0 400) }
+    ∷ record { given = asked (fiveThousandEach 0) 0 4 256; shown = terms (Terms 36_850 0 1_000 12_850 2_400 600) }
+    ∷ record { given = asked (fiveThousandEach 0) 4 8 256; shown = terms (NoSheet 6) }
+    ∷ requests (overFour 36_650 ++ fieldFor (home 1 2 (5 ∷ []))) (256 ∷ 257 ∷ []) (Joined 0 ∷ Refused 25 ∷ [])
     ∷ []
 
 -- every row shows what the definitions give

@@ -1,6 +1,6 @@
 -- All that is promised of the definitions.
 use Rattle.rules_plan.specs.Promises.{Promises}
-use Rattle.rules_plan.proofs.Meaning.{covers-as-worded, uses-as-worded, permits-as-worded, longer-takes-longer}
+use Rattle.rules_plan.proofs.Meaning.{covers-as-worded, uses-as-worded, home-as-worded, permits-as-worded, longer-takes-longer}
 use Rattle.rules_plan.proofs.Walks.{walks-as-worded}
 use Rattle.rules_plan.proofs.Words.{verdicts-as-worded, no-entry-meets-nothing}
 use Rattle.rules_plan.proofs.Exactly.{accepted-exactly}
@@ -10,6 +10,7 @@ pub promised : Promises
 promised = record {
   covers = covers-as-worded;
   uses = uses-as-worded;
+  home = home-as-worded;
   permits = permits-as-worded;
   longer = longer-takes-longer;
   walks = walks-as-worded;

@@ -53,7 +53,7 @@ module _ (p : Plan) (fair : Fair p) (s : List ℕ) (at before : ℕ) where
       cut (inl h) = under-three (omega arith)
       cut (inr h) = past-end (omega arith)
 
-      tag : (tagAt s at < 1) ⊎ (6 < tagAt s at) → Wrong p s at before 3
+      tag : (tagAt s at < 1) ⊎ (7 < tagAt s at) → Wrong p s at before 3
       tag (inl h) = tag-under h
       tag (inr h) = tag-over h
 

@@ -17,16 +17,20 @@ use Rattle.lists.specs.laws.Append.{repeats-one}
 use Rattle.lists.specs.laws.At.{place-at, place-once, read-member, member-read}
 use Rattle.lists.specs.laws.Pigeonhole.{fewer}
 use Rattle.rules_plan.specs.Plan.{nth, Device, Link, Route, Entry, Plan}
-use Rattle.rules_plan.specs.Meaning.{isDevice, hasKind, isNode, isRouter, isLink, isInitiator, initiators, leadsFrom, hasPath, standsAt}
+use Rattle.rules_plan.specs.Meaning.{isDevice, hasKind, isNode, isRouter, isLink, isInitiator, initiators, leadsFrom, hasRoute, hasPath, standsAt}
 use Rattle.rules_plan.specs.Good.{sameDeviceNumber, sameLinkNumber}
 use Rattle.rules_plan.specs.Walk.{IsRouter, Twice, LinksDiffer}
-use Rattle.rules_plan.specs.Wrong.{IsDevice, IsLink, HasPath, HasEntry, IsInitiator, Eight}
+use Rattle.rules_plan.specs.Wrong.{IsDevice, IsLink, HasRoute, HasPath, HasEntry, IsInitiator, Eight}
 use Rattle.rules_plan.specs.laws.InRange.{path-ranged}
 use Rattle.rules_plan.specs.laws.Initiators.{initiator-in, in-initiators, initiators-once}
 use Rattle.rules_plan.specs.laws.Kinds.{node-or-router}
 use Rattle.rules_plan.specs.laws.Fair.{Fair}
 use Rattle.rules_plan.proofs.Asks.{Asks, is-asks, false-asks, any-asks, any-two-asks}
 use Rattle.rules_plan.proofs.Walks.{router-asks}
+
+pub route-asks : (xs : List Route) (a b : ℕ) → Asks (hasRoute xs a b) (HasRoute xs a b)
+unfolding leadsFrom
+route-asks xs a b = any-two-asks _ _ _ _ (λ (x : Route). is-asks a (x .start)) (λ (x : Route). is-asks b (x .end)) xs
 
 module _ (p : Plan) where
   pub device-asks : (n : ℕ) → Asks (isDevice p n) (IsDevice p n)
@@ -38,8 +42,8 @@ module _ (p : Plan) where
   link-asks n = any-asks _ _ (λ (l : Link). is-asks n (l .num)) (p .links)
 
   pub path-asks : (i t : ℕ) → Asks (hasPath p i t) (HasPath p i t)
-  unfolding hasPath leadsFrom
-  path-asks i t = any-two-asks _ _ _ _ (λ (x : Route). is-asks i (x .start)) (λ (x : Route). is-asks t (x .end)) (p .paths)
+  unfolding hasPath
+  path-asks i t = route-asks (p .paths) i t
 
   pub entry-asks : (i v : ℕ) → Asks (any (standsAt i v) (p .entries)) (HasEntry p i v)
   unfolding standsAt

@@ -14,13 +14,13 @@ use Rattle.lists.specs.laws.Bools.{both-true, true-both, not-both}
 use Rattle.lists.specs.laws.Search.{find-some}
 use Rattle.lists.specs.laws.Append.{every-member}
 use Rattle.rules_plan.specs.Fields.{Tag, tags, tagOf, isTag, comesOnce, lengthAllowed}
-use Rattle.rules_plan.specs.Wrong.{Allowed, tag-01, tag-02, tag-03, tag-04, tag-05, tag-06}
+use Rattle.rules_plan.specs.Wrong.{Allowed, tag-01, tag-02, tag-03, tag-04, tag-05, tag-06, tag-07}
 use Rattle.rules_plan.specs.laws.Lengths.{allowed}
 use Rattle.rules_plan.proofs.Asks.{Asks, not-asks}
 
 -- what the words say of a row of the table of tags
 record InWords (t : Tag) : Type 0 where
-  number : (1 ≤ t .number) × (t .number ≤ 6)
+  number : (1 ≤ t .number) × (t .number ≤ 7)
   once : t .once ≡ true → (t .number ≡ 5) ⊎ (t .number ≡ 6)
   lengths : (size : ℕ) → t .shortest ≤ size → size ≤ t .longest → Allowed (t .number) size
 
@@ -36,7 +36,10 @@ in-words = every-member InWords tags (
         record { number = (omega arith, omega arith); once = λ h. not-both h refl; lengths = λ size h k. tag-04 h k },
         (
           record { number = (omega arith, omega arith); once = λ h. inl refl; lengths = λ size h k. subst (Allowed 5) (omega arith) tag-05 },
-          (record { number = (omega arith, omega arith); once = λ h. inr refl; lengths = λ size h k. subst (Allowed 6) (omega arith) tag-06 }, tt),
+          (
+            record { number = (omega arith, omega arith); once = λ h. inr refl; lengths = λ size h k. subst (Allowed 6) (omega arith) tag-06 },
+            (record { number = (omega arith, omega arith); once = λ h. not-both h refl; lengths = λ size h k. tag-07 h k }, tt),
+          ),
         ),
       ),
     ),
@@ -47,8 +50,8 @@ row-of : (n : ℕ) (t : Tag) → tagOf n ≡ some t → InWords t × (n ≡ t .n
 unfolding tagOf
 row-of n t e = let (m, h) = find-some _ tags t e in (in-words t m, eqb-true n (t .number) h)
 
--- 3: "tag not 01 to 05", and 06 is spared
-is-tag : (n : ℕ) → 1 ≤ n → n ≤ 6 → isTag n ≡ true
+-- 3: "tag not 01 to 05", and 06 and 07 are spared
+is-tag : (n : ℕ) → 1 ≤ n → n ≤ 7 → isTag n ≡ true
 unfolding isTag isSome tagOf tags find
 is-tag zero h k = absurd (omega arith)
 is-tag (suc zero) h k = refl
@@ -57,25 +60,26 @@ is-tag (suc (suc (suc zero))) h k = refl
 is-tag (suc (suc (suc (suc zero)))) h k = refl
 is-tag (suc (suc (suc (suc (suc zero))))) h k = refl
 is-tag (suc (suc (suc (suc (suc (suc zero)))))) h k = refl
-is-tag (suc (suc (suc (suc (suc (suc (suc n))))))) h k = absurd (omega arith)
+is-tag (suc (suc (suc (suc (suc (suc (suc zero))))))) h k = refl
+is-tag (suc (suc (suc (suc (suc (suc (suc (suc n)))))))) h k = absurd (omega arith)
 
-tag-asks : (n : ℕ) → Asks (isTag n) ((1 ≤ n) × (n ≤ 6))
+tag-asks : (n : ℕ) → Asks (isTag n) ((1 ≤ n) × (n ≤ 7))
 unfolding isTag isSome
 tag-asks n = (there (tagOf n) refl, λ h. is-tag n (h .0) (h .1))
   where
-    there : (o : Option Tag) → tagOf n ≡ o → isTag n ≡ true → (1 ≤ n) × (n ≤ 6)
+    there : (o : Option Tag) → tagOf n ≡ o → isTag n ≡ true → (1 ≤ n) × (n ≤ 7)
     there none e h = not-both (rw (e, isTag) at h) refl
     there (some t) e h = let (w, g) = row-of n t e in (omega (arith, w .number), omega (arith, w .number))
 
-pub no-tag-asks : (n : ℕ) → Asks (not (isTag n)) ((n < 1) ⊎ (6 < n))
-no-tag-asks n = (λ h. there ((not-asks (isTag n) (tag-asks n)) .0 h) (decLt n 1) (decLt 6 n), λ h. (not-asks (isTag n) (tag-asks n)) .1 (back h))
+pub no-tag-asks : (n : ℕ) → Asks (not (isTag n)) ((n < 1) ⊎ (7 < n))
+no-tag-asks n = (λ h. there ((not-asks (isTag n) (tag-asks n)) .0 h) (decLt n 1) (decLt 7 n), λ h. (not-asks (isTag n) (tag-asks n)) .1 (back h))
   where
-    there : ((1 ≤ n) × (n ≤ 6) → ⊥) → Dec (n < 1) → Dec (6 < n) → (n < 1) ⊎ (6 < n)
+    there : ((1 ≤ n) × (n ≤ 7) → ⊥) → Dec (n < 1) → Dec (7 < n) → (n < 1) ⊎ (7 < n)
     there f (yes h) d = inl h
     there f (no h) (yes k) = inr k
     there f (no h) (no k) = absurd (f (omega arith, omega arith))
 
-    back : (n < 1) ⊎ (6 < n) → (1 ≤ n) × (n ≤ 6) → ⊥
+    back : (n < 1) ⊎ (7 < n) → (1 ≤ n) × (n ≤ 7) → ⊥
     back (inl h) k = omega (arith, k .0)
     back (inr h) k = omega (arith, k .1)
 
@@ -116,6 +120,7 @@ is-allowed (tag-03 {size} h k) = true-both (le-leb 3 size h) (le-leb size 10 k)
 is-allowed (tag-04 {size} h k) = true-both (le-leb 4 size h) (le-leb size 19 k)
 is-allowed tag-05 = refl
 is-allowed tag-06 = refl
+is-allowed (tag-07 {size} h k) = true-both (le-leb 3 size h) (le-leb size 10 k)
 
 allowed-asks : (n size : ℕ) → Asks (lengthAllowed n size) (Allowed n size)
 unfolding lengthAllowed

@@ -5,7 +5,7 @@ use Prim.Native.Nat.{ℕ, min, max}
 use mathlib.Core.List.{List, _++_, map, flatMap}
 use Rattle.lists.specs.Search.{keep, isIn, below64}
 use Rattle.lists.specs.Order.{inOrder, Shuffled}
-use Rattle.rules_plan.specs.Plan.{Device, Link, Route, Entry, withTargets, Plan, blank, withDevices, withLinks, withPaths, withEntries, Item, device, link, path, entry, timing, times}
+use Rattle.rules_plan.specs.Plan.{Device, Link, Route, Entry, withTargets, Plan, blank, withDevices, withLinks, withPaths, withEntries, withReplies, Item, device, link, path, entry, timing, times, reply}
 use Rattle.rules_plan.specs.Fields.{fieldFor}
 use Rattle.rules_plan.specs.Judge.{plan, fault, readFile}
 
@@ -20,17 +20,18 @@ rising ts = keep (λ (t : ℕ). isIn t ts) below64
 unfoldable pub withRising : Entry → Entry
 withRising e = withTargets (rising (e .targets)) e
 
--- "Writing out puts fields in order of tag, then by number, by (initiator, target) or by (initiator, slot)."
+-- "Writing out puts fields in order of tag, then by number, by (initiator, target) or by (initiator, slot)." A reply ends at its initiator.
 unfoldable pub canonical : Plan → Plan
 canonical p =
     withDevices (inOrder (λ (d : Device). d .num) (p .devices))
     (withLinks (map smallFirst (inOrder (λ (l : Link). l .num) (p .links)))
     (withPaths (inOrder (λ (x : Route). x .start) (inOrder (λ (x : Route). x .end) (p .paths)))
-    (withEntries (map withRising (inOrder (λ (e : Entry). e .initiator) (inOrder (λ (e : Entry). e .slot) (p .entries)))) p)))
+    (withEntries (map withRising (inOrder (λ (e : Entry). e .initiator) (inOrder (λ (e : Entry). e .slot) (p .entries))))
+    (withReplies (inOrder (λ (x : Route). x .end) (inOrder (λ (x : Route). x .start) (p .replies))) p))))
 
 -- the items in order of tag, and the bytes of their fields
 unfoldable pub items : Plan → List Item
-items p = map device (p .devices) ++ map link (p .links) ++ map path (p .paths) ++ map entry (p .entries) ++ map timing (p .timings) ++ map times (p .times)
+items p = map device (p .devices) ++ map link (p .links) ++ map path (p .paths) ++ map entry (p .entries) ++ map timing (p .timings) ++ map times (p .times) ++ map reply (p .replies)
 
 unfoldable pub written : Plan → List ℕ
 written p = flatMap fieldFor (items p)
@@ -60,3 +61,4 @@ pub record SamePlan (p q : Plan) : Type 0 where
   pub entries : Shuffled SameEntry (p .entries) (q .entries)
   pub timings : p .timings ≡ q .timings
   pub times : p .times ≡ q .times
+  pub replies : Shuffled _≡_ (p .replies) (q .replies)

@@ -6,7 +6,7 @@ use mathlib.Core.Bool.{Bool, true, false, _&&_}
 use lib.ListN.{length, take, drop}
 use lib.Dec.{leb, eqb}
 use Rattle.lists.specs.Search.{find, isSome}
-use Rattle.rules_plan.specs.Plan.{nth, two, four, Item, device, link, path, entry, timing, times}
+use Rattle.rules_plan.specs.Plan.{nth, two, four, Item, device, link, path, entry, timing, times, reply}
 
 -- "device number, kind"
 unfoldable pub asDevice : List ℕ → Item
@@ -32,6 +32,10 @@ asTiming c = timing (record { least = four c 0; greatest = four c 4 })
 unfoldable pub asTimes : List ℕ → Item
 asTimes c = times (record { rate = two c 0; a = four c 2; d = four c 6; f = four c 10; g = four c 14; slot = four c 18 })
 
+-- T-03: "initiator, target, then links walked from target back to initiator"
+unfoldable pub asReply : List ℕ → Item
+asReply c = reply (record { start = nth c 1; end = nth c 0; links = drop 2 c })
+
 -- a row of the table "tag, length, content"; once: the tag occurs once
 pub record Tag : Type 0 where
   pub number : ℕ
@@ -48,6 +52,7 @@ tags =
     ∷ record { number = 4; shortest = 4; longest = 19; once = false; reads = asEntry }
     ∷ record { number = 5; shortest = 8; longest = 8; once = true; reads = asTiming }
     ∷ record { number = 6; shortest = 22; longest = 22; once = true; reads = asTimes }
+    ∷ record { number = 7; shortest = 3; longest = 10; once = false; reads = asReply }
     ∷ []
 
 unfoldable pub tagOf : ℕ → Option Tag
@@ -95,6 +100,7 @@ tagFor (path x) = 3
 tagFor (entry e) = 4
 tagFor (timing t) = 5
 tagFor (times x) = 6
+tagFor (reply x) = 7
 
 unfoldable pub contentFor : Item → List ℕ
 contentFor (device d) = d .num ∷ d .kind ∷ []
@@ -103,6 +109,7 @@ contentFor (path x) = x .start ∷ x .end ∷ x .links
 contentFor (entry e) = e .initiator ∷ e .slot ∷ e .span ∷ e .targets
 contentFor (timing t) = fourBytes (t .least) ++ fourBytes (t .greatest)
 contentFor (times x) = twoBytes (x .rate) ++ fourBytes (x .a) ++ fourBytes (x .d) ++ fourBytes (x .f) ++ fourBytes (x .g) ++ fourBytes (x .slot)
+contentFor (reply x) = x .end ∷ x .start ∷ x .links
 
 unfoldable pub fieldFor : Item → List ℕ
 fieldFor x = tagFor x ∷ length (contentFor x) / 256 ∷ length (contentFor x) % 256 ∷ contentFor x

@@ -45,6 +45,7 @@ pub record Good (p : Plan) : Type 0 where
   pub links : repeats sameLinkNumber (p .links) ≡ false
   pub paths : repeats samePathEnds (p .paths) ≡ false
   pub entries : repeats sameEntryPlace (p .entries) ≡ false
+  pub replies : repeats samePathEnds (p .replies) ≡ false
   pub targets : (e : Entry) → List·Memᴰ e (p .entries) → twice (e .targets) ≡ false
   -- 8
   pub known : Each p (notGiven p) false

@@ -10,15 +10,15 @@ use Rattle.lists.specs.Search.{any, all, when, firstSome, twice, least}
 use Rattle.lists.specs.Rows.{Row, firstOf}
 use Rattle.rules_plan.specs.declared.Verdict.{Verdict}
 use Rattle.rules_plan.specs.declared.Verdict.the-variants.{Accepted, Faulty, Overrun, Clash}
-use Rattle.rules_plan.specs.Plan.{Route, Entry, Plan, blank, Item, device, link, path, entry, timing, times, grow}
+use Rattle.rules_plan.specs.Plan.{Route, Entry, Plan, blank, Item, device, link, path, entry, timing, times, reply, grow}
 use Rattle.rules_plan.specs.Sheet.{timesOutOfRange}
 use Rattle.rules_plan.specs.Fields.{isTag, comesOnce, lengthAllowed, tagAt, sizeAt, nextAt, itemAt}
-use Rattle.rules_plan.specs.Meaning.{isDevice, isNode, isLink, isInitiator, initiators, hasPath, isWalk, mayUse, isAtWork, standsAt, overruns}
+use Rattle.rules_plan.specs.Meaning.{isDevice, isNode, isLink, isInitiator, initiators, hasRoute, hasPath, isWalk, mayUse, isAtWork, standsAt, overruns}
 
 unfoldable pub over63 : ℕ → Bool
 over63 n = ltb 63 n
 
--- rows 6, 8 and 10 of a route by its start, its end and its links; row 7 of it is hasRoute
+-- rows 6, 8 and 10 of a route by its start, its end and its links; row 7 of it is hasRoute. "Refusals: 6, 7, 8, 10 as for 03"
 abbrev pub routeOutOfRange : Route → Bool
 routeOutOfRange x = over63 (x .start) || over63 (x .end) || any over63 (x .links) || eqb (x .start) (x .end)
 
@@ -37,6 +37,7 @@ outOfRange (path x) = routeOutOfRange x
 outOfRange (entry e) = over63 (e .initiator) || over63 (e .slot) || eqb (e .span) 0 || ltb 16 (e .span) || any over63 (e .targets)
 outOfRange (timing t) = eqb (t .greatest) 0 || ltb 2_147_483_647 (t .greatest) || ltb (t .greatest) (t .least)
 outOfRange (times x) = timesOutOfRange x
+outOfRange (reply x) = routeOutOfRange x
 
 -- 7: "a device, link, path (initiator, target) or entry (initiator, slot) given before; a target twice in one entry"
 unfoldable pub givenBefore : Plan → Item → Bool
@@ -46,6 +47,7 @@ givenBefore p (path x) = hasPath p (x .start) (x .end)
 givenBefore p (entry e) = any (standsAt (e .initiator) (e .slot)) (p .entries) || twice (e .targets)
 givenBefore p (timing t) = false
 givenBefore p (times x) = false
+givenBefore p (reply x) = hasRoute (p .replies) (x .start) (x .end)
 
 -- 8: "a device or link not given before; a router as initiator or target"
 unfoldable pub notGiven : Plan → Item → Bool
@@ -55,6 +57,7 @@ notGiven p (path x) = routeNotGiven p x
 notGiven p (entry e) = not (isNode p (e .initiator) && all (isNode p) (e .targets))
 notGiven p (timing t) = false
 notGiven p (times x) = false
+notGiven p (reply x) = routeNotGiven p x
 
 -- 9: "a path that makes a ninth initiator or is the 129th"
 unfoldable pub tooMany : Plan → Item → Bool
@@ -64,6 +67,7 @@ tooMany p (path x) = not (isInitiator p (x .start)) && leb 8 (length (initiators
 tooMany p (entry e) = false
 tooMany p (timing t) = false
 tooMany p (times x) = false
+tooMany p (reply x) = false
 
 -- 10: "links of a path are no walk"
 unfoldable pub noWalk : Plan → Item → Bool
@@ -73,8 +77,9 @@ noWalk p (path x) = routeNoWalk p x
 noWalk p (entry e) = false
 noWalk p (timing t) = false
 noWalk p (times x) = false
+noWalk p (reply x) = routeNoWalk p x
 
--- 11: "an entry's target has no path from its initiator"
+-- 11: "an entry's target has no path from its initiator"; T-03: "11 if no command path exists"
 unfoldable pub noPath : Plan → Item → Bool
 noPath p (device d) = false
 noPath p (link l) = false
@@ -82,6 +87,7 @@ noPath p (path x) = false
 noPath p (entry e) = not (all (hasPath p (e .initiator)) (e .targets))
 noPath p (timing t) = false
 noPath p (times x) = false
+noPath p (reply x) = not (hasPath p (x .end) (x .start))
 
 -- rows 6 to 11, of an item after plan p
 unfoldable pub itemRows : Plan → Item → List Row

@@ -1,8 +1,8 @@
 -- What a plan means. Each notion that a later change redefines stands behind one name:
--- uses, fitsIn, permits, covers, mayUse; entries are an argument where a later change picks some of them.
+-- uses, homeOf, fitsIn, permits, covers, mayUse; entries are an argument where a later change picks some of them.
 use Prim.Native.Nat.{ℕ, _+_, _-_, _*_, _%_}
 use mathlib.Core.List.{List, [], _∷_}
-use mathlib.Core.Option.{Option, none, some}
+use mathlib.Core.Option.{Option, none, some, Option·getD}
 use mathlib.Core.Bool.{Bool, false, not, _&&_, _||_, cond}
 use lib.ListN.{length}
 use lib.Dec.{ltb, leb, eqb}
@@ -70,8 +70,13 @@ abbrev pub goesOver : List Route → ℕ → ℕ → ℕ → Bool
 goesOver xs a b l = any (λ (x : Route). leadsFrom a b x && isIn l (x .links)) xs
 
 -- "A transaction uses the links of its path. The reply goes back over the same links. A link counts whole, both directions."
+-- T-03: "A transaction uses both sets of links", those of its path and, where its reply has a way of its own, those of that.
 unfoldable pub uses : Plan → ℕ → ℕ → ℕ → Bool
-uses p i t l = goesOver (p .paths) i t l
+uses p i t l = goesOver (p .paths) i t l || goesOver (p .replies) t i l
+
+-- T-03: the way that the reply of route r comes home, of the ways ys: "from target back to initiator. Without one, the old rule stands"
+unfoldable pub homeOf : List Route → Route → Route
+homeOf ys r = Option·getD (find (leadsFrom (r .end) (r .start)) ys) r
 
 -- "Entry (initiator, slot s, span n) covers slots s to s+n-1, modulo 64."
 unfoldable pub covers : Entry → ℕ → Bool
@@ -81,9 +86,9 @@ covers e s = ltb ((s + 64 - e .slot) % 64) (e .span)
 unfoldable pub routers : Route → ℕ
 routers r = length (r .links) - 1
 
--- a transaction with n data bytes over route r, out and home, takes at most so long
-unfoldable pub takesAtMost : Times → ℕ → ℕ → Route → Bool
-takesAtMost x n most r = leb (sheet x (routers r) (routers r) n) most
+-- a transaction with n data bytes over route r, whose reply comes over route h, takes at most so long: "T-01 takes R of each way for its own terms"
+unfoldable pub takesAtMost : Times → ℕ → ℕ → (r h : Route) → Bool
+takesAtMost x n most r h = leb (sheet x (routers r) (routers h) n) most
 
 -- a transaction of initiator i with n data bytes to target t is within the time of k slots: "with 256 × span at least the length", and with
 -- a 06 "256 × span gives way to the largest length, up to 4,096, whose time fits span × slot length on that path"
@@ -91,7 +96,7 @@ unfoldable pub fitsIn : Plan → ℕ → ℕ → ℕ → ℕ → Bool
 fitsIn p i t n k =
     elim (p .times) [
       | [] ↦ leb n (256 * k)
-      | x ∷ xs ↦ leb n 4_096 && any (λ (r : Route). leadsFrom i t r && takesAtMost x n (k * x .slot) r) (p .paths)
+      | x ∷ xs ↦ leb n 4_096 && any (λ (r : Route). leadsFrom i t r && takesAtMost x n (k * x .slot) r (homeOf (p .replies) r)) (p .paths)
     ]
 
 unfoldable pub fits : Plan → Entry → ℕ → ℕ → Bool

@@ -1,4 +1,4 @@
--- The plan: what the fields of a plan file give, in six lists. A field adds one item to one of them.
+-- The plan: what the fields of a plan file give, in seven lists. A field adds one item to one of them.
 use Prim.Native.Nat.{ℕ, _+_, _*_}
 use mathlib.Core.List.{List, [], _∷_, _++_}
 use lib.ListN.{getD}
@@ -26,7 +26,7 @@ pub record Link : Type 0 where
   pub other : ℕ
 
 -- a way over links in order, from the device that it is walked from to the one that it leads to: a path starts at its initiator and
--- ends at its target. (Path is the name of a type of the library.)
+-- ends at its target, a reply starts at the target and ends at the initiator. (Path is the name of a type of the library.)
 pub record Route : Type 0 where
   pub start : ℕ
   pub end : ℕ
@@ -62,28 +62,32 @@ pub record Plan : Type 0 where
   pub entries : List Entry
   pub timings : List Timing
   pub times : List Times
+  pub replies : List Route
 
 unfoldable pub blank : Plan
-blank = record { devices = []; links = []; paths = []; entries = []; timings = []; times = [] }
+blank = record { devices = []; links = []; paths = []; entries = []; timings = []; times = []; replies = [] }
 
 -- the plan with one list replaced
 abbrev pub withDevices : List Device → Plan → Plan
-withDevices ds p = record { devices = ds; links = p .links; paths = p .paths; entries = p .entries; timings = p .timings; times = p .times }
+withDevices ds p = record { devices = ds; links = p .links; paths = p .paths; entries = p .entries; timings = p .timings; times = p .times; replies = p .replies }
 
 abbrev pub withLinks : List Link → Plan → Plan
-withLinks ls p = record { devices = p .devices; links = ls; paths = p .paths; entries = p .entries; timings = p .timings; times = p .times }
+withLinks ls p = record { devices = p .devices; links = ls; paths = p .paths; entries = p .entries; timings = p .timings; times = p .times; replies = p .replies }
 
 abbrev pub withPaths : List Route → Plan → Plan
-withPaths xs p = record { devices = p .devices; links = p .links; paths = xs; entries = p .entries; timings = p .timings; times = p .times }
+withPaths xs p = record { devices = p .devices; links = p .links; paths = xs; entries = p .entries; timings = p .timings; times = p .times; replies = p .replies }
 
 abbrev pub withEntries : List Entry → Plan → Plan
-withEntries es p = record { devices = p .devices; links = p .links; paths = p .paths; entries = es; timings = p .timings; times = p .times }
+withEntries es p = record { devices = p .devices; links = p .links; paths = p .paths; entries = es; timings = p .timings; times = p .times; replies = p .replies }
 
 abbrev pub withTimings : List Timing → Plan → Plan
-withTimings ts p = record { devices = p .devices; links = p .links; paths = p .paths; entries = p .entries; timings = ts; times = p .times }
+withTimings ts p = record { devices = p .devices; links = p .links; paths = p .paths; entries = p .entries; timings = ts; times = p .times; replies = p .replies }
 
 abbrev pub withTimes : List Times → Plan → Plan
-withTimes xs p = record { devices = p .devices; links = p .links; paths = p .paths; entries = p .entries; timings = p .timings; times = xs }
+withTimes xs p = record { devices = p .devices; links = p .links; paths = p .paths; entries = p .entries; timings = p .timings; times = xs; replies = p .replies }
+
+abbrev pub withReplies : List Route → Plan → Plan
+withReplies xs p = record { devices = p .devices; links = p .links; paths = p .paths; entries = p .entries; timings = p .timings; times = p .times; replies = xs }
 
 -- what one field gives
 pub data Item : Type 0 where
@@ -93,6 +97,7 @@ pub data Item : Type 0 where
   entry : Entry → Item
   timing : Timing → Item
   times : Times → Item
+  reply : Route → Item
 
 -- the plan with one more item, at the end of its list
 unfoldable pub grow : Plan → Item → Plan
@@ -102,3 +107,4 @@ grow p (path x) = withPaths (p .paths ++ (x ∷ [])) p
 grow p (entry e) = withEntries (p .entries ++ (e ∷ [])) p
 grow p (timing t) = withTimings (p .timings ++ (t ∷ [])) p
 grow p (times x) = withTimes (p .times ++ (x ∷ [])) p
+grow p (reply x) = withReplies (p .replies ++ (x ∷ [])) p

@@ -1,18 +1,19 @@
 -- What is proved of the definitions, each promise a type that reads like the sentence it stands for.
 use mathlib.Core.Path.{_≡_}
-use mathlib.Core.Logic.{_↔_}
+use mathlib.Core.Logic.{_↔_, _⊎_}
 use mathlib.Core.List.{List, [], _∷_, List·Memᴰ}
-use mathlib.Core.Bool.{true}
+use mathlib.Core.Bool.{true, false}
 use Prim.Native.Nat.{ℕ, _+_, _*_, _%_, _≤_, _<_}
 use lib.ListN.{length}
+use Rattle.lists.specs.Search.{repeats}
 use Rattle.rules_plan.specs.declared.Verdict.{Verdict}
 use Rattle.rules_plan.specs.Plan.{Route, Entry, Times, Plan}
-use Rattle.rules_plan.specs.Meaning.{isWalk, covers, uses, routers, permits}
+use Rattle.rules_plan.specs.Meaning.{isWalk, covers, uses, homeOf, routers, permits}
 use Rattle.rules_plan.specs.Verdict.{number}
 use Rattle.rules_plan.specs.Sheet.{sheet}
 use Rattle.rules_plan.specs.Judge.{judge}
 use Rattle.rules_plan.specs.Canon.{written, given, planOf, SamePlan}
-use Rattle.rules_plan.specs.Good.{Bytes, Good}
+use Rattle.rules_plan.specs.Good.{Bytes, samePathEnds, Good}
 use Rattle.rules_plan.specs.Walk.{Walk, LinksDiffer}
 use Rattle.rules_plan.specs.Words.{NoOverrun, NoClash, Gets}
 use Rattle.rules_plan.specs.laws.Sound.{Sound}
@@ -27,23 +28,36 @@ CoversAsWorded =
     (e : Entry) (s : ℕ) → e .slot < 64 → e .span ≤ 64 → s < 64 →
     (covers e s ≡ true) ↔ ((k : ℕ) × (k < e .span) × (s ≡ (e .slot + k) % 64))
 
--- "A transaction uses the links of its path."
-pub record OnPath (p : Plan) (i t l : ℕ) : Type 0 where
+-- a route from a to b, of the routes xs, that goes over link l
+pub record OnRoute (xs : List Route) (a b l : ℕ) : Type 0 where
   pub route : Route
-  pub has : List·Memᴰ route (p .paths)
-  pub from : i ≡ route .start
-  pub to : t ≡ route .end
+  pub has : List·Memᴰ route xs
+  pub from : a ≡ route .start
+  pub to : b ≡ route .end
   pub on : List·Memᴰ l (route .links)
+
+-- "A transaction uses the links of its path"; T-03: "A transaction uses both sets of links."
+abbrev pub OnPath : Plan → (i t l : ℕ) → Type 0
+OnPath p i t l = OnRoute (p .paths) i t l ⊎ OnRoute (p .replies) t i l
 
 unfoldable pub UsesAsWorded : Type 0
 UsesAsWorded = (p : Plan) (i t l : ℕ) → (uses p i t l ≡ true) ↔ OnPath p i t l
 
+-- T-03: the way that the reply of path r comes home: "links walked from target back to initiator. Without one, the old rule stands."
+pub data Home (p : Plan) (r : Route) : Route → Type 0 where
+  another-way : {h : Route} → List·Memᴰ h (p .replies) → h .start ≡ r .end → h .end ≡ r .start → Home p r h
+  same-way : ((h : Route) → List·Memᴰ h (p .replies) → h .start ≡ r .end → h .end ≡ r .start → ⊥) → Home p r r
+
+-- (verdict 7 leaves one reply at most for a pair)
+unfoldable pub HomeAsWorded : Type 0
+HomeAsWorded = (p : Plan) → repeats samePathEnds (p .replies) ≡ false → (r h : Route) → (homeOf (p .replies) r ≡ h) ↔ Home p r h
+
 -- "with 256 × span at least the length"; and of a plan that carries its times "256 × span gives way to the largest length, up to 4,096,
--- whose time fits span × slot length on that path; a path that not even length 0 fits is not permitted"
+-- whose time fits span × slot length on that path; a path that not even length 0 fits is not permitted"; T-03: "R of each way for its own terms"
 pub data Short (p : Plan) (e : Entry) (t n : ℕ) : Type 0 where
   by-span : p .times ≡ [] → n ≤ 256 * e .span → Short p e t n
   by-time : {x : Times} {xs : List Times} {r : Route} → p .times ≡ x ∷ xs → List·Memᴰ r (p .paths) → e .initiator ≡ r .start → t ≡ r .end
-      → n ≤ 4_096 → sheet x (routers r) (routers r) n ≤ e .span * x .slot → Short p e t n
+      → n ≤ 4_096 → sheet x (routers r) (routers (homeOf (p .replies) r)) n ≤ e .span * x .slot → Short p e t n
 
 -- "permits the target with" such a length
 unfoldable pub PermitsAsWorded : Type 0
@@ -94,6 +108,7 @@ AcceptedIsSound = (s : List ℕ) → Accepted? s → Sound (planOf s)
 pub record Promises : Type 0 where
   pub covers : CoversAsWorded
   pub uses : UsesAsWorded
+  pub home : HomeAsWorded
   pub permits : PermitsAsWorded
   pub longer : LongerTakesLonger
   pub walks : WalksAsWorded

@@ -28,16 +28,16 @@ unfoldable pub dataTime : (rate n : ℕ) → ℕ
 dataTime rate n = quotientUp (10_000 * (n + 1)) rate
 
 -- (i): "10,000 × (R+8) / S"
-unfoldable pub reply : (rate home : ℕ) → ℕ
-reply rate home = quotientUp (10_000 * (home + 8)) rate
+unfoldable pub replyTime : (rate home : ℕ) → ℕ
+replyTime rate home = quotientUp (10_000 * (home + 8)) rate
 
 -- the sum of (a) to (i): "plus four given latencies (a, d, f, g)"
 unfoldable pub sheet : Times → (out home n : ℕ) → ℕ
-sheet x out home n = x .a + crossing out + header (x .rate) out home + x .d + dataTime (x .rate) n + x .f + x .g + crossing home + reply (x .rate) home
+sheet x out home n = x .a + crossing out + header (x .rate) out home + x .d + dataTime (x .rate) n + x .f + x .g + crossing home + replyTime (x .rate) home
 
 -- all of it but the data term (e)
 unfoldable pub fixedTime : Times → (out home : ℕ) → ℕ
-fixedTime x out home = x .a + crossing out + header (x .rate) out home + x .d + x .f + x .g + crossing home + reply (x .rate) home
+fixedTime x out home = x .a + crossing out + header (x .rate) out home + x .d + x .f + x .g + crossing home + replyTime (x .rate) home
 
 -- "S outside 2 to 400, or a latency or slot length over 1,000,000, is 6"
 unfoldable pub overMillion : ℕ → Bool
@@ -55,7 +55,7 @@ unfoldable pub sheetAnswer : Times → (out home n : ℕ) → Sheet
 sheetAnswer x out home n =
     elim (noSheet x out home n) [
       | true ↦ NoSheet 6
-      | false ↦ Terms (sheet x out home n) (crossing out) (header (x .rate) out home) (dataTime (x .rate) n) (crossing home) (reply (x .rate) home)
+      | false ↦ Terms (sheet x out home n) (crossing out) (header (x .rate) out home) (dataTime (x .rate) n) (crossing home) (replyTime (x .rate) home)
     ]
 
 -- its numbers: 0 or the refusal, the sum, then the terms that are worked out, (b), (c), (e), (h) and (i)

@@ -5,7 +5,7 @@ use mathlib.Core.List.{List, [], _∷_, List·Memᴰ}
 use mathlib.Core.Option.{some}
 use Prim.Native.Nat.{ℕ, _+_, _≤_, _<_}
 use lib.ListN.{length}
-use Rattle.rules_plan.specs.Plan.{Device, Link, Route, Entry, Timing, Times, Plan, Item, device, link, path, entry, timing, times}
+use Rattle.rules_plan.specs.Plan.{Device, Link, Route, Entry, Timing, Times, Plan, Item, device, link, path, entry, timing, times, reply}
 use Rattle.rules_plan.specs.Fields.{tagAt, sizeAt, nextAt, itemAt}
 use Rattle.rules_plan.specs.Walk.{IsRouter, Twice, Walk}
 
@@ -17,6 +17,11 @@ pub data Allowed : ℕ → ℕ → Type 0 where
   tag-04 : {size : ℕ} → 4 ≤ size → size ≤ 19 → Allowed 4 size
   tag-05 : Allowed 5 8
   tag-06 : Allowed 6 22
+  tag-07 : {size : ℕ} → 3 ≤ size → size ≤ 10 → Allowed 7 size
+
+-- a route of the list leads from device a to device b
+abbrev pub HasRoute : List Route → ℕ → ℕ → Type 0
+HasRoute xs a b = (x : Route) × List·Memᴰ x xs × (x .start ≡ a) × (x .end ≡ b)
 
 -- the plan has a device or a link with number n, a path from i to t, an entry of i in slot v
 abbrev pub IsDevice : Plan → ℕ → Type 0
@@ -26,7 +31,7 @@ abbrev pub IsLink : Plan → ℕ → Type 0
 IsLink p n = (l : Link) × List·Memᴰ l (p .links) × (l .num ≡ n)
 
 abbrev pub HasPath : Plan → ℕ → ℕ → Type 0
-HasPath p i t = (x : Route) × List·Memᴰ x (p .paths) × (x .start ≡ i) × (x .end ≡ t)
+HasPath p i t = HasRoute (p .paths) i t
 
 abbrev pub HasEntry : Plan → ℕ → ℕ → Type 0
 HasEntry p i v = (e : Entry) × List·Memᴰ e (p .entries) × (e .initiator ≡ i) × (e .slot ≡ v)
@@ -50,6 +55,7 @@ endsOf (path x) = x .start ∷ x .end ∷ []
 endsOf (entry e) = e .initiator ∷ e .targets
 endsOf (timing t) = []
 endsOf (times x) = []
+endsOf (reply x) = x .start ∷ x .end ∷ []
 
 unfoldable pub devicesOf : Item → List ℕ
 devicesOf (device d) = []
@@ -58,6 +64,7 @@ devicesOf (path x) = endsOf (path x)
 devicesOf (entry e) = endsOf (entry e)
 devicesOf (timing t) = []
 devicesOf (times x) = []
+devicesOf (reply x) = endsOf (reply x)
 
 unfoldable pub linksOf : Item → List ℕ
 linksOf (device d) = []
@@ -66,6 +73,12 @@ linksOf (path x) = x .links
 linksOf (entry e) = []
 linksOf (timing t) = []
 linksOf (times x) = []
+linksOf (reply x) = x .links
+
+-- the route that an item gives: a path, or the way of a reply
+pub data Gives (x : Route) : Item → Type 0 where
+  a-path : Gives x (path x)
+  a-reply : Gives x (reply x)
 
 -- rows 6 to 11, of an item after plan p
 pub data WrongItem (p : Plan) : Item → ℕ → Type 0 where
@@ -86,12 +99,13 @@ pub data WrongItem (p : Plan) : Item → ℕ → Type 0 where
   rate-over : {x : Times} → 400 < x .rate → WrongItem p (times x) 6
   time-over : {x : Times} {n : ℕ} → List·Memᴰ n (x .a ∷ x .d ∷ x .f ∷ x .g ∷ x .slot ∷ []) → 1_000_000 < n → WrongItem p (times x) 6
   to-itself : {l : Link} → l .one ≡ l .other → WrongItem p (link l) 6
-  ends-equal : {x : Route} → x .start ≡ x .end → WrongItem p (path x) 6
+  ends-equal : {x : Route} {y : Item} → Gives x y → x .start ≡ x .end → WrongItem p y 6
   -- 7: "a device, link, path (initiator, target) or entry (initiator, slot) given before; a target twice in one entry"
   device-before : {d : Device} → IsDevice p (d .num) → WrongItem p (device d) 7
   link-before : {l : Link} → IsLink p (l .num) → WrongItem p (link l) 7
   path-before : {x : Route} → HasPath p (x .start) (x .end) → WrongItem p (path x) 7
   entry-before : {e : Entry} → HasEntry p (e .initiator) (e .slot) → WrongItem p (entry e) 7
+  reply-before : {x : Route} → HasRoute (p .replies) (x .start) (x .end) → WrongItem p (reply x) 7
   target-twice : {e : Entry} → Twice (e .targets) → WrongItem p (entry e) 7
   -- 8: "a device or link not given before; a router as initiator or target"
   no-device : {x : Item} {n : ℕ} → List·Memᴰ n (devicesOf x) → (IsDevice p n → ⊥) → WrongItem p x 8
@@ -101,18 +115,19 @@ pub data WrongItem (p : Plan) : Item → ℕ → Type 0 where
   ninth : {x : Route} → Eight p → (IsInitiator p (x .start) → ⊥) → WrongItem p (path x) 9
   past-128 : {x : Route} → 128 ≤ length (p .paths) → WrongItem p (path x) 9
   -- 10: "links of a path are no walk"
-  no-walk : {x : Route} → (Walk p (x .start) (x .links) (x .end) → ⊥) → WrongItem p (path x) 10
-  -- 11: "an entry's target has no path from its initiator"
+  no-walk : {x : Route} {y : Item} → Gives x y → (Walk p (x .start) (x .links) (x .end) → ⊥) → WrongItem p y 10
+  -- 11: "an entry's target has no path from its initiator"; T-03: "11 if no command path exists"
   no-path : {e : Entry} {t : ℕ} → List·Memᴰ t (e .targets) → (HasPath p (e .initiator) t → ⊥) → WrongItem p (entry e) 11
+  no-command : {x : Route} → (HasPath p (x .end) (x .start) → ⊥) → WrongItem p (reply x) 11
 
 -- rows 2 to 11, of the field at offset at of file s, after a field with the tag before (0 for none) and the plan p
 pub data Wrong (p : Plan) (s : List ℕ) (at before : ℕ) : ℕ → Type 0 where
   -- 2: "under 3 bytes left for tag and length, or content runs past the end"
   under-three : length s < at + 3 → Wrong p s at before 2
   past-end : length s < nextAt s at → Wrong p s at before 2
-  -- 3: "tag not 01 to 05"; "verdict 3 spares each tag a ticket adds": 06
+  -- 3: "tag not 01 to 05"; "verdict 3 spares each tag a ticket adds": 06, 07
   tag-under : tagAt s at < 1 → Wrong p s at before 3
-  tag-over : 6 < tagAt s at → Wrong p s at before 3
+  tag-over : 7 < tagAt s at → Wrong p s at before 3
   -- 4: "tag below the one before, or a second 05"; "a second 06 is 4"
   tag-falls : tagAt s at < before → Wrong p s at before 4
   second-05 : before ≡ 5 → tagAt s at ≡ 5 → Wrong p s at before 4

@@ -28,6 +28,8 @@ mosts kind.Out = 32_768 ∷ []
 mosts kind.SetWatchdog = 4_294_967_295 ∷ 4_294_967_295 ∷ 4_294_967_295 ∷ 4_294_967_295 ∷ 4_294_967_295 ∷ []
 -- "R S D A DD F G", "(R 0 to 255, S, D 0 to 65,535, latencies 0 to 4,294,967,295)"
 mosts kind.Sheet = 255 ∷ 65_535 ∷ 65_535 ∷ 4_294_967_295 ∷ 4_294_967_295 ∷ 4_294_967_295 ∷ 4_294_967_295 ∷ []
+-- T-03: "RC RR S D A DD F G", "with RC routers on the command's way and RR on the reply's"
+mosts kind.SheetBoth = 255 ∷ 255 ∷ 65_535 ∷ 65_535 ∷ 4_294_967_295 ∷ 4_294_967_295 ∷ 4_294_967_295 ∷ 4_294_967_295 ∷ []
 
 unfoldable pub made : Kind → List ℕ → Command
 made kind.TimeCode ns = TimeCode (getD ns 0 0) (getD ns 1 0) (getD ns 2 0)
@@ -36,7 +38,8 @@ made kind.Reply ns = Reply (getD ns 0 0) (getD ns 1 0) (getD ns 2 0)
 made kind.Reading ns = Reading (getD ns 0 0)
 made kind.Out ns = Out (getD ns 0 0)
 made kind.SetWatchdog ns = SetWatchdog (getD ns 0 0) (getD ns 1 0) (getD ns 2 0) (getD ns 3 0) (getD ns 4 0)
-made kind.Sheet ns = Sheet (getD ns 0 0) (getD ns 1 0) (getD ns 2 0) (getD ns 3 0) (getD ns 4 0) (getD ns 5 0) (getD ns 6 0)
+made kind.Sheet ns = Sheet (getD ns 0 0) (getD ns 0 0) (getD ns 1 0) (getD ns 2 0) (getD ns 3 0) (getD ns 4 0) (getD ns 5 0) (getD ns 6 0)
+made kind.SheetBoth ns = Sheet (getD ns 0 0) (getD ns 1 0) (getD ns 2 0) (getD ns 3 0) (getD ns 4 0) (getD ns 5 0) (getD ns 6 0) (getD ns 7 0)
 
 -- the table: a command's name, and the command by the words behind it
 unfoldable pub numbered : Kind → List (List ℕ) → Command
@@ -66,6 +69,7 @@ commands =
     ∷ (text "wd", alone Watchdog)
     ∷ (text "setwd", numbered kind.SetWatchdog)
     ∷ (text "sheet", numbered kind.Sheet)
+    ∷ (text "sheet2", numbered kind.SheetBoth)
     ∷ []
 
 unfoldable pub named : List Row → List ℕ → List (List ℕ) → Command

@@ -49,8 +49,10 @@ pub enum Command {
         least: u32,
         greatest: u32,
     },
+    // The routers of the command's way and of the reply's.
     Sheet {
-        routers: u8,
+        there: u8,
+        home: u8,
         rate: u16,
         length: u16,
         a: u32,
@@ -71,6 +73,18 @@ const SHEET: [u32; 7] = [
     4_294_967_295,
 ];
 
+// "RC routers on the command's way and RR on the reply's"
+const SHEET_BOTH: [u32; 8] = [
+    255,
+    255,
+    65_535,
+    65_535,
+    4_294_967_295,
+    4_294_967_295,
+    4_294_967_295,
+    4_294_967_295,
+];
+
 // The commands that are a name and numbers.
 enum Kind {
     TimeCode,
@@ -80,6 +94,7 @@ enum Kind {
     Out,
     SetWatchdog,
     Sheet,
+    SheetBoth,
 }
 
 // "load HEX"
@@ -117,7 +132,7 @@ fn numbered(line: &[u8], end: usize, bounds: &[u32], kind: Kind) -> Command
     requires { ⌜ (end ≤ length (now line)) × (now bounds ≡ mosts kind) ⌝ }
     ensures { λ r. ⌜ r ≡ numbered kind (behindWord (drop end (now (line .entry)))) ⌝ }
 {
-    let mut ns = [0u32; 7];
+    let mut ns = [0u32; 8];
     if !numbers(line, end, bounds, &mut ns) {
         return Command::Bad;
     }
@@ -147,14 +162,28 @@ fn numbered(line: &[u8], end: usize, bounds: &[u32], kind: Kind) -> Command
             least: ns[3],
             greatest: ns[4],
         },
-        Kind::Sheet => Command::Sheet {
-            routers: ns[0] as u8,
-            rate: ns[1] as u16,
-            length: ns[2] as u16,
-            a: ns[3],
-            d: ns[4],
-            f: ns[5],
-            g: ns[6],
+        Kind::Sheet => {
+            let routers = ns[0] as u8;
+            Command::Sheet {
+                there: routers,
+                home: routers,
+                rate: ns[1] as u16,
+                length: ns[2] as u16,
+                a: ns[3],
+                d: ns[4],
+                f: ns[5],
+                g: ns[6],
+            }
+        }
+        Kind::SheetBoth => Command::Sheet {
+            there: ns[0] as u8,
+            home: ns[1] as u8,
+            rate: ns[2] as u16,
+            length: ns[3] as u16,
+            a: ns[4],
+            d: ns[5],
+            f: ns[6],
+            g: ns[7],
         },
     }
 }
@@ -194,6 +223,9 @@ fn named(line: &[u8], end: usize) -> Command
     }
     if same(name, b"sheet") {
         return numbered(line, end, &SHEET, Kind::Sheet);
+    }
+    if same(name, b"sheet2") {
+        return numbered(line, end, &SHEET_BOTH, Kind::SheetBoth);
     }
     Command::Bad
 }

@@ -70,7 +70,7 @@ Replied (Out room) line n before after printed = (after ≡ before) × WrittenOu
 Replied Watchdog line n before after printed = (after ≡ before) × (printed ≡ watchdogLine (before .five))
 Replied (SetWatchdog last seen reported least greatest) line n before after printed =
     (after ≡ kept (before .memory) (fiveOf last seen reported least greatest)) × (printed ≡ ended (text "OK"))
-Replied (Sheet r s size a d f g) line n before after printed = (after ≡ before) × (printed ≡ sheetLine (sheetAnswer (paced s a d f g) r r size))
+Replied (Sheet there home s size a d f g) line n before after printed = (after ≡ before) × (printed ≡ sheetLine (sheetAnswer (paced s a d f g) there home size))
 
 -- what is printed stands at the front of a buffer
 pub record Answers (Told : List ℕ → Type 0) (before after : List ℕ) (end : ℕ) : Type 0 where

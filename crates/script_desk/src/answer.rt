@@ -389,7 +389,8 @@ pub fn answer(
             }
         }
         Command::Sheet {
-            routers,
+            there,
+            home,
             rate,
             length,
             a,
@@ -397,7 +398,7 @@ pub fn answer(
             f,
             g,
         } => {
-            let sheet = time_sheet::sheet(routers, routers, rate, length, a, d, f, g);
+            let sheet = time_sheet::sheet(there, home, rate, length, a, d, f, g);
             let end = put_sheet(out, sheet);
             Answered { end, watchdog }
         }

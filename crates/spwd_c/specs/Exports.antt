@@ -28,7 +28,7 @@ use Rattle.c_numbers.specs.Numbers.{verdictNumbers, verdictOf, sizedNumbers}
 -- `spwd_c_version`: one more with each change of what is lent, of the numbers that calls take and give back, or of the bytes of a plan file
 -- or a record. `c/spwd.h` and `rust/spwd` name the version that they are written for.
 abbrev pub interfaceVersion : ℕ
-interfaceVersion = 3
+interfaceVersion = 4
 
 -- `spwd_c_load`
 pub record Loads (file : List ℕ) (m′ : Memory) (w′ : Watchdog) (verdict′ : List ℕ) : Type 0 where

@@ -9,7 +9,7 @@ use borrow.Author.Tests.{ltb-false, le-ltb}
 use Rattle.lists.specs.laws.Bools.{neither}
 use Rattle.rules_plan.specs.Plan.{Times}
 use Rattle.rules_plan.specs.declared.Sheet.the-variants.{NoSheet, Terms}
-use Rattle.rules_plan.specs.Sheet.{quotientUp, replyAddress, crossing, header, dataTime, reply, sheet, fixedTime, overMillion, timesOutOfRange, noSheet, sheetAnswer}
+use Rattle.rules_plan.specs.Sheet.{quotientUp, replyAddress, crossing, header, dataTime, replyTime, sheet, fixedTime, overMillion, timesOutOfRange, noSheet, sheetAnswer}
 use Rattle.rules_plan.specs.laws.Sheets.{TimesRange, up-most, times-range}
 use Rattle.time_sheet.specs.Paced.{paced}
 
@@ -67,7 +67,7 @@ module _ (x : Times) (out home n : ℕ) where
   no-times h = rw h
 
 cost-most : (x : Times) (out home : ℕ) → TimesRange x → out < 256 → home < 256 → x .rate * fixedTime x out home < 4_294_967_296
-unfolding fixedTime crossing header reply replyAddress
+unfolding fixedTime crossing header replyTime replyAddress
 cost-most x out home r o h =
     omega (
       arith,
@@ -82,7 +82,7 @@ cost-most x out home r o h =
     )
 
 -- what it costs, by the terms that are worked out
-module _ (x : Times) (out home : ℕ) {b c h i : ℕ} (p : b ≡ crossing out) (q : c ≡ header (x .rate) out home) (r : h ≡ crossing home) (s : i ≡ reply (x .rate) home) where
+module _ (x : Times) (out home : ℕ) {b c h i : ℕ} (p : b ≡ crossing out) (q : c ≡ header (x .rate) out home) (r : h ≡ crossing home) (s : i ≡ replyTime (x .rate) home) where
   fixed-is : b + c + (h + i) + x .a + x .d + x .f + x .g ≡ fixedTime x out home
   unfolding fixedTime
   fixed-is = omega arith
@@ -95,7 +95,7 @@ module _ (x : Times) (out home : ℕ) {b c h i : ℕ} (p : b ≡ crossing out) (
 
 -- the answer, by its terms
 module _ (x : Times) (out home n : ℕ) where
-  pub terms-are : {b c e h i : ℕ} → b ≡ crossing out → c ≡ header (x .rate) out home → e ≡ dataTime (x .rate) n → h ≡ crossing home → i ≡ reply (x .rate) home
+  pub terms-are : {b c e h i : ℕ} → b ≡ crossing out → c ≡ header (x .rate) out home → e ≡ dataTime (x .rate) n → h ≡ crossing home → i ≡ replyTime (x .rate) home
       → noSheet x out home n ≡ false → Terms (x .a + b + c + x .d + e + x .f + x .g + h + i) b c e h i ≡ sheetAnswer x out home n
   unfolding sheetAnswer sheet
   terms-are p q r s t f = rw (p, q, r, s, t, f, sheetAnswer)

@@ -2,8 +2,8 @@
 // whatever the length. `out` is how many routers the command crosses, `home` how many the reply does.
 ghost use mathlib.Core.Path.{_≡_};
 ghost use mathlib.Core.Bool.{false};
-ghost use Prim.Native.Nat.{_*_, _≤_};
-ghost use Rattle.rules_plan.specs.Sheet.{quotientUp, replyAddress, crossing, header, dataTime, reply, fixedTime, timesOutOfRange, noSheet, sheetAnswer};
+ghost use Prim.Native.Nat.{_-_, _*_, _≤_};
+ghost use Rattle.rules_plan.specs.Sheet.{quotientUp, replyAddress, crossing, header, dataTime, replyTime, fixedTime, timesOutOfRange, noSheet, sheetAnswer};
 ghost use Rattle.rules_plan.specs.laws.Sheets.{TimesRange};
 ghost use Rattle.time_sheet.specs.Paced.{paced};
 use rules_plan::Sheet;
@@ -52,13 +52,23 @@ fn data_time(rate: u32, length: u16) -> u32
 // (i)
 fn reply_time(rate: u32, home: u8) -> u32
     requires { ⌜ (1 ≤ rate) × (rate ≤ 400) ⌝ }
-    ensures { λ r. ⌜ (r ≡ reply rate home) × (r ≤ 2_630_000) ⌝ }
+    ensures { λ r. ⌜ (r ≡ replyTime rate home) × (r ≤ 2_630_000) ⌝ }
 {
     quotient_up(10_000 * (home as u32 + 8), rate)
 }
 
+// "R routers (links less one)"
+pub fn routers_over(links: u8) -> u8
+    ensures { λ r. ⌜ r ≡ links - 1 ⌝ }
+{
+    if links == 0 {
+        return 0;
+    }
+    links - 1
+}
+
 // "S outside 2 to 400, or a latency … over 1,000,000"
-pub fn out_of_range(rate: u16, a: u32, d: u32, f: u32, g: u32) -> bool
+pub fn out_of_range(rate: u32, a: u32, d: u32, f: u32, g: u32) -> bool
     ensures { λ r. ⌜ r ≡ timesOutOfRange (paced rate a d f g) ⌝ }
 {
     if rate < 2 {
@@ -83,7 +93,7 @@ pub fn out_of_range(rate: u16, a: u32, d: u32, f: u32, g: u32) -> bool
 fn no_sheet(out: u8, home: u8, rate: u16, length: u16, a: u32, d: u32, f: u32, g: u32) -> bool
     ensures { λ r. ⌜ r ≡ noSheet (paced rate a d f g) out home length ⌝ }
 {
-    if out_of_range(rate, a, d, f, g) {
+    if out_of_range(rate as u32, a, d, f, g) {
         return true;
     }
     if 7 < out {

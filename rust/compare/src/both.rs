@@ -147,11 +147,23 @@ impl Both {
 
 /// The time sheet of both; whether it is accepted.
 pub fn same_sheet(sheet: &Sheet) -> Outcome<bool> {
-    let [a, d, f, g] = sheet.latencies;
+    let Sheet {
+        command_routers,
+        reply_routers,
+        rate,
+        length,
+        latencies: [a, d, f, g],
+    } = *sheet;
     let latencies = Latencies { a, d, f, g };
-    let answer = spwd::sheet(sheet.routers, sheet.rate, sheet.length, latencies);
-    let answer = answer.map_err(|SheetOutOfRange| SheetOutOfRange::NUMBER);
-    Ok(same("sheet", answer, theirs::sheet(sheet))?.is_ok())
+    let number = |SheetOutOfRange| SheetOutOfRange::NUMBER;
+    let theirs = theirs::sheet(sheet);
+    let answer = spwd::sheet2(command_routers, reply_routers, rate, length, latencies);
+    let two_ways = same("sheet of two ways", answer.map_err(number), theirs)?;
+    if command_routers == reply_routers {
+        let answer = spwd::sheet(command_routers, rate, length, latencies);
+        return Ok(same("sheet", answer.map_err(number), theirs)?.is_ok());
+    }
+    Ok(two_ways.is_ok())
 }
 
 /// The plan written out by both; the number of the answer.

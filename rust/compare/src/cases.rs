@@ -9,7 +9,7 @@ use crate::random::Random;
 use crate::sheets::{self, Sheet};
 use crate::tally::Tally;
 use crate::times;
-use spwd::{Answer, Event, READ, RECORDS_ROOM, WRITTEN_MOST};
+use spwd::{Answer, Event, Record, READ, RECORDS_ROOM, WRITTEN_MOST};
 
 /// A case that showed a difference.
 #[derive(Debug)]
@@ -167,7 +167,7 @@ impl<'a> Case<'a> {
 
     fn sheet(&mut self, sheet: Sheet) -> Outcome<()> {
         let accepted = same_sheet(&sheet).inspect_err(|_| self.call = format!("{sheet:?}"))?;
-        self.tally.sheet(accepted);
+        self.tally.sheet(&sheet, accepted);
         Ok(())
     }
 
@@ -216,6 +216,11 @@ impl<'a> Case<'a> {
         self.call = format!("{event:?} with {room} bytes for records");
         let (answer, records) = self.both.step(event, room)?;
         self.tally.event(&answer, &records);
+        if self.actor.has_replies() {
+            let started = records.iter().filter(|one| one.kind == Record::STARTED);
+            self.tally
+                .started_with_replies(self.actor.has_times(), started.count());
+        }
         self.tally
             .by_time(&self.watcher.take(&event, &answer, &records));
         if answer.is_ok() {

@@ -1,9 +1,10 @@
 //! Damaged plan files.
 
-use crate::fields::{field, intervals, split};
+use crate::fields::{field, intervals, put, split};
 use crate::permits::permits;
 use crate::random::Random;
-use crate::times::{Times, TAG};
+use crate::replies;
+use crate::times::{self, Times};
 
 /// The file with one thing changed.
 pub fn damaged(file: &[u8], random: &mut Random) -> Vec<u8> {
@@ -52,20 +53,21 @@ fn lengthened(file: &mut Vec<u8>, random: &mut Random) {
 
 fn fields_changed(mut fields: Vec<Vec<u8>>, random: &mut Random) -> Vec<Vec<u8>> {
     let at = random.below(fields.len());
-    match random.below(15) {
+    match random.below(21) {
         0 => drop(fields.remove(at)),
         1 => fields.insert(at, fields[at].clone()),
         2 => {
             let other = random.below(fields.len());
             fields.swap(at, other);
         }
-        3 => fields[at][0] = random.pick(&[0, 1, 2, 3, 4, 5, 6, 7, 255]),
+        3 => fields[at][0] = random.pick(&[0, 1, 2, 3, 4, 5, 6, 7, 8, 9, 255]),
         4 => fields[at][2] = random.below(24) as u8,
         5 => fields[at] = resized(&fields[at], random),
         6 => timing_changed(&mut fields, random),
         7 => entry_changed(&mut fields, random),
         8..12 => times_changed(&mut fields, random),
         12 => fields.retain(|field| field[0] != 4),
+        13..19 => reply_changed(&mut fields, random),
         _ => number_changed(&mut fields, at, random),
     }
     fields
@@ -107,20 +109,64 @@ fn timing_changed(fields: &mut Vec<Vec<u8>>, random: &mut Random) {
 /// before it.
 fn times_changed(fields: &mut Vec<Vec<u8>>, random: &mut Random) {
     let permits = permits(fields);
-    let own = Times::at_the_end(fields);
+    let own = Times::among(fields);
     let own = own.unwrap_or_else(|| Times::random(&permits, random));
     let mut changed = own.at_a_bound(random).field();
     if random.chance(200) {
         let size = random.pick(&[0, 1, 2, 8, 18, 21, 23, 24, 26]);
-        changed = field(TAG, &vec![random.byte(); size]);
+        changed = field(times::TAG, &vec![random.byte(); size]);
     }
     match random.below(8) {
-        0 => fields.push(own.field()),
+        0 => put(fields, own.field()),
         1 => fields.insert(random.below(fields.len() + 1), changed.clone()),
-        2 => fields.retain(|field| field[0] < 5),
-        _ => fields.retain(|field| field[0] != TAG),
+        2 => fields.retain(|field| ![5, times::TAG].contains(&field[0])),
+        _ => fields.retain(|field| field[0] != times::TAG),
+    }
+    put(fields, changed);
+}
+
+/// A field 07 made of a path: one at fault in place of the pair's own, a second one, or one too early; or any field again at the end.
+fn reply_changed(fields: &mut Vec<Vec<u8>>, random: &mut Random) {
+    let paths = fields
+        .iter()
+        .filter(|field| field[0] == 3 && field.len() > 5);
+    let paths: Vec<&[u8]> = paths.map(|field| &field[3..]).collect();
+    if paths.is_empty() {
+        return;
+    }
+    let path = random.pick(&paths).to_vec();
+    let own = |field: &Vec<u8>| field[0] == replies::TAG && field[3..].starts_with(&path[..2]);
+    let mut changed = field(replies::TAG, &faulty_reply(&path, random));
+    match random.below(10) {
+        0 => fields.insert(random.below(fields.len() + 1), changed.clone()),
+        1 => changed = fields[random.below(fields.len())].clone(),
+        2 => {}
+        _ => fields.retain(|field| !own(field)),
     }
     fields.push(changed);
+}
+
+/// The content of a reply to this path: over the same links, from the wrong end, or of the pair the other way round, and one thing of it
+/// changed.
+fn faulty_reply(path: &[u8], random: &mut Random) -> Vec<u8> {
+    let mut content = path.to_vec();
+    match random.below(4) {
+        0 => {}
+        1 => content.swap(0, 1),
+        _ => content[2..].reverse(),
+    }
+    let at = random.below(content.len());
+    let link = random.between(2, content.len() - 1);
+    match random.below(8) {
+        0 => content[at] = random.pick(&[64, 127, 128, 255]),
+        1 => content[at] = random.below(64) as u8,
+        2 => content[1] = content[0],
+        3 => drop(content.remove(link)),
+        4 => content.insert(link, content[link]),
+        5 => content.resize(random.below(14), content[link]),
+        _ => {}
+    }
+    content
 }
 
 /// An entry with a longer span or a target of another.

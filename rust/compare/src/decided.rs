@@ -15,11 +15,15 @@ pub enum ByTime {
     RefusedEmpty,
     StartedExactly,
     PassedByOne,
+    TakenByReply,
+    RefusedByReply,
+    StartedByReply,
+    PassedByReply,
 }
 
 impl ByTime {
     /// In their order.
-    pub const ALL: [(Self, &str); 7] = [
+    pub const ALL: [(Self, &str); 11] = [
         (Self::TakenExactly, "taken with no ns to spare"),
         (Self::TakenBeyond, "taken above 256 bytes a slot"),
         (Self::RefusedByOne, "refused with 25 for one ns"),
@@ -30,6 +34,13 @@ impl ByTime {
         (Self::RefusedEmpty, "refused with 25 at length 0"),
         (Self::StartedExactly, "started with no ns to spare"),
         (Self::PassedByOne, "left waiting for one ns"),
+        (Self::TakenByReply, "taken for its reply's own way"),
+        (
+            Self::RefusedByReply,
+            "refused with 25 for its reply's own way",
+        ),
+        (Self::StartedByReply, "started for its reply's own way"),
+        (Self::PassedByReply, "left waiting for its reply's own way"),
     ];
 }
 
@@ -67,7 +78,7 @@ impl Watcher {
         let (fields, _) = split(file);
         Self {
             permits: permits(&fields),
-            times: Times::at_the_end(&fields),
+            times: Times::among(&fields),
             waiting: Vec::new(),
         }
     }
@@ -106,18 +117,21 @@ impl Watcher {
         };
         let within = asked.length <= 256 * u16::from(permit.span);
         let spare = times.spare(permit, asked.length);
+        let over_the_path = times.fits(&permit.back_over_the_path(), asked.length);
         match *answer {
             Ok(Answer::Joined(transaction)) => {
                 self.waiting.push(Waiting { asked, transaction });
                 only(&[
                     (ByTime::TakenExactly, spare == Some(0)),
                     (ByTime::TakenBeyond, !within),
+                    (ByTime::TakenByReply, !over_the_path),
                 ])
             }
             Err(NOT_PERMITTED) => only(&[
                 (ByTime::RefusedByOne, spare == Some(-1)),
                 (ByTime::RefusedWithin, within),
                 (ByTime::RefusedEmpty, asked.length == 0),
+                (ByTime::RefusedByReply, over_the_path),
             ]),
             _ => Vec::new(),
         }
@@ -143,9 +157,13 @@ impl Watcher {
                 served.push(asked.initiator);
             }
             let spare = times.spare(permit, asked.length);
+            let over_the_path = times.fits(&permit.back_over_the_path(), asked.length);
+            let fits = times.fits(permit, asked.length);
             decided.extend(only(&[
                 (ByTime::StartedExactly, started && spare == Some(0)),
                 (ByTime::PassedByOne, !started && spare == Some(-1)),
+                (ByTime::StartedByReply, started && !over_the_path),
+                (ByTime::PassedByReply, !started && !fits && over_the_path),
             ]));
         }
         self.waiting

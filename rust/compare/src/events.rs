@@ -3,6 +3,7 @@
 use crate::fields::split;
 use crate::permits::{permits, Permit};
 use crate::random::Random;
+use crate::replies;
 use crate::times::Times;
 use spwd::{Event, Record, Watchdog};
 
@@ -11,6 +12,7 @@ pub struct Actor {
     has_plan: bool,
     permits: Vec<Permit>,
     times: Option<Times>,
+    has_replies: bool,
     last: Option<u8>,
     /// Live transactions: initiator and number.
     live: Vec<(u8, u16)>,
@@ -23,13 +25,22 @@ impl Actor {
         Self {
             has_plan: true,
             permits: permits(&fields),
-            times: Times::at_the_end(&fields),
+            times: Times::among(&fields),
+            has_replies: fields.iter().any(|field| field[0] == replies::TAG),
             ..Self::default()
         }
     }
 
     pub fn has_plan(&self) -> bool {
         self.has_plan
+    }
+
+    pub fn has_replies(&self) -> bool {
+        self.has_replies
+    }
+
+    pub fn has_times(&self) -> bool {
+        self.times.is_some()
     }
 
     pub fn event(&self, five: Watchdog, random: &mut Random) -> Event {
@@ -55,21 +66,18 @@ impl Actor {
     }
 
     fn request(&self, strange: bool, random: &mut Random) -> Event {
-        let (mut initiator, mut target, most) = match self.permits[..] {
+        let (mut initiator, mut target, mut length) = match self.permits[..] {
             [] => (random.byte() % 64, random.byte() % 64, 256),
             _ => {
                 let permit = random.pick(&self.permits);
-                (permit.initiator, permit.target, self.longest(&permit))
+                (
+                    permit.initiator,
+                    permit.target,
+                    self.length(&permit, random),
+                )
             }
         };
         let mut kind = random.below(2) as u8;
-        let mut length = match random.below(8) {
-            0 => 0,
-            1 => most,
-            2 => most + 1,
-            3 => random.below(4098) as u16,
-            _ => random.below(usize::from(most) + 1) as u16,
-        };
         if strange {
             match random.below(4) {
                 0 => initiator = random.byte(),
@@ -83,6 +91,19 @@ impl Actor {
             target,
             kind,
             length,
+        }
+    }
+
+    /// A length that fits the entry or does not by little, or that would if the reply went back over the path, or any.
+    fn length(&self, permit: &Permit, random: &mut Random) -> u16 {
+        let most = self.longest(permit);
+        match random.below(9) {
+            0 => 0,
+            1 => most,
+            2 => most + 1,
+            3 => self.longest(&permit.back_over_the_path()),
+            4 => random.below(4098) as u16,
+            _ => random.below(usize::from(most) + 1) as u16,
         }
     }
 

@@ -1,6 +1,7 @@
 //! Plan files as large as they come.
 
-use crate::fields::{field, intervals, split};
+use crate::fields::{field, intervals, put, split};
+use crate::replies;
 use crate::times::USUAL;
 
 /// The devices 0 to 63, these of them routers.
@@ -60,9 +61,41 @@ fn paths_round_the_ring(row: u8) -> Vec<u8> {
     file
 }
 
-/// All that a plan can hold but times: 64 devices, 64 links, 128 paths of 8 links, 512 entries with 16 targets. Eight initiators stand at
-/// one end of seven routers in a row and sixteen targets at the other. No such plan is without a clash: with every entry at work,
-/// eight initiators with sixteen targets each would need 128 last links of their own.
+/// The maximal plan with a reply to each path: over the same links to the targets at the initiator's own router, round the ring the other
+/// way to all others.
+pub fn replied_round(maximal: &[u8]) -> Vec<u8> {
+    with_replies(maximal, |path| {
+        let (row, target) = (path[0], path[1]);
+        let router = (target - 16) / 6;
+        let hops = (row + 8 - router) % 8;
+        let mut links = vec![target];
+        links.extend((0..hops).map(|hop| 8 + (router + hop) % 8));
+        links.push(row);
+        links
+    })
+}
+
+/// The plan with a reply to each path, over the same links.
+pub fn replied(file: &[u8]) -> Vec<u8> {
+    with_replies(file, |path| path[2..].iter().rev().copied().collect())
+}
+
+/// The plan with a reply to each path, given the content of that.
+fn with_replies(file: &[u8], back: impl Fn(&[u8]) -> Vec<u8>) -> Vec<u8> {
+    let (mut fields, _) = split(file);
+    let paths = fields.iter().filter(|field| field[0] == 3);
+    let replies = paths.map(|path| {
+        let content = &path[3..];
+        field(replies::TAG, &[&content[..2], &back(content)].concat())
+    });
+    let replies: Vec<Vec<u8>> = replies.collect();
+    fields.extend(replies);
+    fields.concat()
+}
+
+/// All that a plan can hold but times and replies: 64 devices, 64 links, 128 paths of 8 links, 512 entries with 16 targets. Eight
+/// initiators stand at one end of seven routers in a row and sixteen targets at the other. No such plan is without a clash: with every
+/// entry at work, eight initiators with sixteen targets each would need 128 last links of their own.
 pub fn full() -> Vec<u8> {
     let mut file = devices(8..15);
     for link in 0..64 {
@@ -85,9 +118,11 @@ pub fn full() -> Vec<u8> {
     file
 }
 
-/// The plan with times in which every path of up to four routers has room for 256 bytes in one slot.
+/// The plan with times in which there is room for 256 bytes in one slot over up to four routers each way.
 pub fn timed(file: &[u8]) -> Vec<u8> {
-    [file, &USUAL.field()].concat()
+    let (mut fields, _) = split(file);
+    put(&mut fields, USUAL.field());
+    fields.concat()
 }
 
 /// The fields that have one of these tags.

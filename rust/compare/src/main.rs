@@ -1,8 +1,9 @@
 //! compare [SEED [FILES [EVENTS]]]: files and histories drawn from the seed, taken by the proved box and by the reference. At least
 //! so many files and events are compared, and then as many time sheets as files. The first difference ends it: what was done, on what
-//! file, both results, and status 1. The same where a verdict, refusal or record kind was not reached, or a side of what the times of a
-//! plan or a sheet decide, and where a plan drawn to be accepted was refused. The last line is "N passed, M failed", N the cases without
-//! a difference: files, histories, one history in which transaction numbers run round, plans with times at each bound, and all sheets.
+//! file, both results, and status 1. The same where a verdict, refusal or record kind was not reached, a side of what the times of a plan
+//! or a sheet decide, or a verdict on a reply or a clash by its way, and where a plan drawn to be accepted was refused. The last line is
+//! "N passed, M failed", N the cases without a difference: files, histories, one history in which transaction numbers run round, plans
+//! with times at each bound, and all sheets.
 
 use compare::cases::{Case, Failure};
 use compare::random::Random;

@@ -31,6 +31,35 @@ impl Network {
         }
     }
 
+    /// Two to four pairs of nodes and three routers; every router is joined to all other devices, so there are many ways for each pair.
+    pub fn with_many_ways(random: &mut Random) -> Self {
+        let mut numbers: Vec<u8> = (0..64).collect();
+        random.shuffle(&mut numbers);
+        let routers = numbers[..3].to_vec();
+        let nodes = numbers[3..][..2 * random.between(2, 4)].to_vec();
+        let mut joined = vec![(0, 1), (0, 2), (1, 2)];
+        joined
+            .extend((0..3).flat_map(|router| (3..3 + nodes.len()).map(move |node| (node, router))));
+        let devices = [&routers[..], &nodes].concat();
+        random.shuffle(&mut numbers);
+        let links = numbers.iter().zip(joined);
+        let links = links.map(|(&number, (one, other))| (number, devices[one], devices[other]));
+        Self {
+            links: links.collect(),
+            nodes,
+            routers,
+        }
+    }
+
+    /// The same as if every device were a router: walks go through nodes too.
+    pub fn of_routers(&self) -> Self {
+        Self {
+            nodes: self.nodes.clone(),
+            routers: [&self.nodes[..], &self.routers].concat(),
+            links: self.links.clone(),
+        }
+    }
+
     /// A walk from a node to another over at most eight links and routers only, if one is found soon.
     pub fn walk(&self, from: u8, to: u8, random: &mut Random) -> Option<Walk> {
         let mut links = self.links.clone();

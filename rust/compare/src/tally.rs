@@ -2,15 +2,12 @@
 
 use crate::both::{After, Answered};
 use crate::decided::ByTime;
+use crate::field_tally::{row, RepliesTally, TimesTally, VERDICTS, WHOLE};
 use crate::fields::split;
-use crate::times::{bounds, outside, Times, NUMBERS, TAG};
+use crate::sheets::Sheet;
+use crate::{replies, times};
 use spwd::{Answer, Record};
 use std::fmt;
-
-/// The verdicts have the numbers below this.
-const VERDICTS: usize = 16;
-/// Those on a whole file.
-const WHOLE: [usize; 5] = [0, 12, 13, 14, 15];
 
 #[derive(Default)]
 pub struct Tally {
@@ -20,6 +17,7 @@ pub struct Tally {
     pub lent: u64,
     verdicts: [u64; VERDICTS],
     times: TimesTally,
+    replies: RepliesTally,
     refusals: [u64; 31],
     kinds: [u64; 7],
     /// Of the status of replies that were taken.
@@ -28,38 +26,31 @@ pub struct Tally {
     blank: [u64; 2],
     holds: [u64; 2],
     by_time: [u64; ByTime::ALL.len()],
-    /// Refused, accepted.
+    /// Refused, accepted: with the same routers each way, and with others on the reply's.
     sheets: [u64; 2],
+    two_way_sheets: [u64; 2],
     /// Transactions with number 0 after number 65,535.
     pub rounds: u64,
     /// Plans that were drawn to be accepted and were not.
     pub spoilt: u64,
 }
 
-/// Of field 06.
-#[derive(Default)]
-struct TimesTally {
-    /// The verdicts on such a field, and on a whole file that ends with one.
-    verdicts: [u64; VERDICTS],
-    /// Verdict 4 on a field of a lower tag behind one.
-    behind: u64,
-    /// For each number of the field and each of its bounds: accepted inside, refused outside and for that alone.
-    at_bounds: [[u64; 4]; NUMBERS],
-}
-
 impl Tally {
-    pub fn verdict(&mut self, [number, place, ..]: [u32; 5], file: &[u8]) {
+    pub fn verdict(&mut self, verdict: [u32; 5], file: &[u8]) {
         let (fields, rest) = split(file);
+        let (number, place) = (verdict[0] as usize, verdict[1] as usize);
         self.files += 1;
-        self.verdicts[number as usize] += 1;
+        self.verdicts[number] += 1;
         match number {
+            1 => {}
             2..=11 => {
-                let (before, judged) = at(&fields, rest, place as usize);
-                self.times.field(number as usize, before, judged);
+                let (before, judged) = at(&fields, rest, place);
+                self.times.field(number, before, judged);
+                self.replies.field(number, before, judged);
             }
             _ => {
-                let last = fields.last().map_or(&[][..], |last| last);
-                self.times.field(number as usize, &[], last);
+                self.times.whole(number, &fields);
+                self.replies.whole(verdict, &fields);
             }
         }
     }
@@ -91,8 +82,26 @@ impl Tally {
         self.holds[usize::from(after.holds)] += 1;
     }
 
-    pub fn sheet(&mut self, accepted: bool) {
-        self.sheets[usize::from(accepted)] += 1;
+    /// So many transactions started under a plan with replies.
+    pub fn started_with_replies(&mut self, timed: bool, count: usize) {
+        self.replies.started(timed, count);
+    }
+
+    pub fn sheet(&mut self, sheet: &Sheet, accepted: bool) {
+        let counts = match sheet.command_routers == sheet.reply_routers {
+            true => &mut self.sheets,
+            false => &mut self.two_way_sheets,
+        };
+        counts[usize::from(accepted)] += 1;
+    }
+
+    /// The verdicts on a whole file that were given only where it has this tag, so many times each.
+    fn never_without(&self, tag: u8, with: &[u64; VERDICTS]) -> Vec<String> {
+        let never = WHOLE.into_iter();
+        let never = never.filter(|&number| self.verdicts[number] == with[number]);
+        never
+            .map(|number| format!("verdict {number} without a 0{tag} was not reached"))
+            .collect()
     }
 
     /// What was to be reached and was not, or the other way round.
@@ -110,6 +119,7 @@ impl Tally {
         want("blank", &self.blank, 0, 1);
         want("holds", &self.holds, 0, 1);
         want("sheet", &self.sheets, 0, 1);
+        want("sheet of two ways", &self.two_way_sheets, 0, 1);
         want("number after 65535", &[self.rounds], 0, 0);
         if self.kinds[6] != 0 {
             missing.push("record kind 6 occurred: no accepted plan leaves room for it".to_owned());
@@ -118,69 +128,13 @@ impl Tally {
             let spoilt = self.spoilt;
             missing.push(format!("{spoilt} plans drawn to be accepted were refused"));
         }
-        for number in WHOLE {
-            if self.verdicts[number] == self.times.verdicts[number] {
-                missing.push(format!("verdict {number} without a 06 was not reached"));
-            }
-        }
+        missing.extend(self.never_without(times::TAG, &self.times.tag.verdicts));
+        missing.extend(self.never_without(replies::TAG, &self.replies.tag.verdicts));
         missing.extend(self.times.missing());
+        missing.extend(self.replies.missing());
         for (what, name) in ByTime::ALL {
             if self.by_time[what as usize] == 0 {
                 missing.push(format!("no request was {name}"));
-            }
-        }
-        missing
-    }
-}
-
-impl TimesTally {
-    /// A verdict on this field, or on a file that ends with it.
-    fn field(&mut self, number: usize, before: &[u8], judged: &[u8]) {
-        let is_times = |field: &[u8]| field.first() == Some(&TAG);
-        if is_times(judged) {
-            self.verdicts[number] += 1;
-            self.bounds(number, judged);
-        } else if number == 4 && is_times(before) {
-            self.behind += 1;
-        }
-    }
-
-    fn bounds(&mut self, number: usize, field: &[u8]) {
-        let Some(Times(numbers)) = Times::of(field) else {
-            return;
-        };
-        let beyond = |place: usize| outside(place, numbers[place]);
-        let refused = number == 6;
-        let alone = (0..NUMBERS).filter(|&place| beyond(place)).count() == 1;
-        if number != 0 && !(refused && alone) {
-            return;
-        }
-        for place in (0..NUMBERS).filter(|&place| beyond(place) == refused) {
-            let bound = bounds(place).iter().position(|&at| at == numbers[place]);
-            if let Some(bound) = bound {
-                self.at_bounds[place][bound] += 1;
-            }
-        }
-    }
-
-    fn missing(&self) -> Vec<String> {
-        let mut missing = Vec::new();
-        for number in [2, 4, 5, 6].into_iter().chain(WHOLE) {
-            if self.verdicts[number] == 0 {
-                missing.push(format!("verdict {number} with a 06 was not reached"));
-            }
-        }
-        if self.verdicts[3] != 0 {
-            missing.push("verdict 3 was given for a 06".to_owned());
-        }
-        if self.behind == 0 {
-            missing.push("no lower tag behind a 06 was refused".to_owned());
-        }
-        for (place, counts) in self.at_bounds.iter().enumerate() {
-            for (bound, _) in bounds(place).iter().zip(counts).filter(|(_, &n)| n == 0) {
-                missing.push(format!(
-                    "number {place} of a 06 was not decisive at {bound}"
-                ));
             }
         }
         missing
@@ -201,12 +155,6 @@ fn at<'a>(fields: &'a [Vec<u8>], rest: &'a [u8], place: usize) -> (&'a [u8], &'a
     (before, rest)
 }
 
-fn row(counts: &[u64], first: usize) -> String {
-    let numbers = counts.iter().enumerate().skip(first);
-    let words = numbers.map(|(number, count)| format!("{number}: {count}"));
-    words.collect::<Vec<_>>().join(", ")
-}
-
 impl fmt::Display for Tally {
     fn fmt(&self, formatter: &mut fmt::Formatter<'_>) -> fmt::Result {
         writeln!(
@@ -215,7 +163,7 @@ impl fmt::Display for Tally {
             self.files, self.events, self.clears, self.lent
         )?;
         writeln!(formatter, "verdicts  {}", row(&self.verdicts, 0))?;
-        write!(formatter, "{}", self.times)?;
+        write!(formatter, "{}{}", self.times, self.replies)?;
         writeln!(formatter, "refusals  {}", row(&self.refusals, 20))?;
         for (what, name) in ByTime::ALL {
             writeln!(formatter, "  {name}: {}", self.by_time[what as usize])?;
@@ -230,24 +178,10 @@ impl fmt::Display for Tally {
         writeln!(formatter, "blank     {}", row(&self.blank, 0))?;
         writeln!(formatter, "holds     {}", row(&self.holds, 0))?;
         writeln!(formatter, "number 0 after number 65535: {}", self.rounds)?;
-        let [refused, accepted] = self.sheets;
+        let ([refused, accepted], [refused2, accepted2]) = (self.sheets, self.two_way_sheets);
         writeln!(
             formatter,
-            "sheets    {accepted} accepted, {refused} refused"
+            "sheets    {accepted} accepted, {refused} refused; of two ways {accepted2}, {refused2}"
         )
-    }
-}
-
-impl fmt::Display for TimesTally {
-    fn fmt(&self, formatter: &mut fmt::Formatter<'_>) -> fmt::Result {
-        writeln!(formatter, "with 06   {}", row(&self.verdicts, 0))?;
-        writeln!(formatter, "  4 for a lower tag behind it: {}", self.behind)?;
-        for (place, counts) in self.at_bounds.iter().enumerate() {
-            let counts = bounds(place).into_iter().zip(counts);
-            let words = counts.map(|(bound, count)| format!("{bound}: {count}"));
-            let words = words.collect::<Vec<_>>().join(", ");
-            writeln!(formatter, "  its number {place} at {words}")?;
-        }
-        Ok(())
     }
 }

@@ -87,13 +87,14 @@ pub fn event(event: spwd::Event) -> Event {
 /// The terms, or the number of the refusal.
 pub fn sheet(sheet: &Sheet) -> Result<spwd::Sheet, u32> {
     let Sheet {
-        routers,
+        command_routers,
+        reply_routers,
         rate,
         length,
         latencies: [a, d, f, g],
     } = *sheet;
     let latencies = Latencies { a, d, f, g };
-    match reference::sheet(routers, routers, rate, length, latencies) {
+    match reference::sheet(command_routers, reply_routers, rate, length, latencies) {
         Ok(sheet) => Ok(spwd::Sheet {
             total: sheet.total,
             b: sheet.b,
@@ -129,6 +130,12 @@ pub fn five(five: &Watchdog) -> [u32; 5] {
 pub fn is_blank(unit: &Unit, watchdog: &Watchdog) -> bool {
     static BLANK: Unit = Unit::new();
     *unit == BLANK && *watchdog == Watchdog::new()
+}
+
+/// Whether the reference accepts the file.
+pub fn accepts(file: &[u8]) -> bool {
+    let verdict = Unit::new().load(file, &mut Watchdog::new());
+    verdict.number() == 0
 }
 
 /// A second box with the file loaded, and whether the first has the same plan: it writes out the same bytes.

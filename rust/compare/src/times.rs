@@ -19,7 +19,7 @@ const LENGTH: u16 = 4_096;
 #[derive(Clone, Copy)]
 pub struct Times(pub [u32; NUMBERS]);
 
-/// Times in which every path of up to four routers has room for 256 bytes in one slot.
+/// Times in which there is room for 256 bytes in one slot over up to four routers each way.
 pub const USUAL: Times = Times([200, 5_000, 5_000, 5_000, 5_000, 39_450]);
 
 /// The bounds of the number at this place of the field.
@@ -64,9 +64,9 @@ impl Times {
         Some(Self(numbers))
     }
 
-    /// Those of a plan, where they are the last field.
-    pub fn at_the_end(fields: &[Vec<u8>]) -> Option<Self> {
-        fields.last().and_then(|last| Self::of(last))
+    /// Those of a plan.
+    pub fn among(fields: &[Vec<u8>]) -> Option<Self> {
+        fields.iter().find_map(|field| Self::of(field))
     }
 
     /// The field; the rate has two bytes.
@@ -76,19 +76,25 @@ impl Times {
         field(TAG, &[&(rate as u16).to_be_bytes()[..], &times].concat())
     }
 
-    /// The time of a length on a path, if the numbers are in range.
-    fn time(&self, routers: u8, length: u16) -> Option<u32> {
+    /// The time of a length over the ways of a pair, if the numbers are in range.
+    fn time(&self, permit: &Permit, length: u16) -> Option<u32> {
         let [rate, a, d, f, g, _] = self.0;
         let latencies = Latencies { a, d, f, g };
-        let sheet = sheet(routers, routers, rate as u16, length, latencies);
+        let (command, reply) = (permit.command_routers, permit.reply_routers);
+        let sheet = sheet(command, reply, rate as u16, length, latencies);
         sheet.ok().map(|sheet| sheet.total)
     }
 
     /// The nanoseconds that an entry's slots have more than a length to its target takes.
     pub fn spare(&self, permit: &Permit, length: u16) -> Option<i64> {
-        let time = self.time(permit.routers, length)?;
+        let time = self.time(permit, length)?;
         let slots = i64::from(permit.span) * i64::from(self.0[5]);
         Some(slots - i64::from(time))
+    }
+
+    /// Whether a length to its target fits the entry's slots.
+    pub fn fits(&self, permit: &Permit, length: u16) -> bool {
+        matches!(self.spare(permit, length), Some(0..))
     }
 
     /// The greatest length that fits, 0 if none does.
@@ -96,9 +102,9 @@ impl Times {
         let (mut fits, mut over) = (0, LENGTH + 1);
         while over - fits > 1 {
             let middle = (fits + over) / 2;
-            match self.spare(permit, middle) {
-                Some(0..) => fits = middle,
-                _ => over = middle,
+            match self.fits(permit, middle) {
+                true => fits = middle,
+                false => over = middle,
             }
         }
         fits
@@ -138,7 +144,7 @@ impl Times {
             1 => random.below(usize::from(LENGTH) + 1),
             _ => random.below(600),
         };
-        let time = self.time(permit.routers, length as u16).unwrap_or(0);
+        let time = self.time(&permit, length as u16).unwrap_or(0);
         let enough = time.div_ceil(permit.span.max(1).into());
         enough.saturating_sub(random.below(2) as u32).min(LONGEST)
     }

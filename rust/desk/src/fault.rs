@@ -1,11 +1,14 @@
 //! A field that was refused, verdicts 2 to 11: its bytes, what it says, and what is at fault in it. The number and the offset are the
 //! box's; which of the field's numbers it is about is looked up in the plan before the field.
 
-use crate::fields::{fields, Device, Entry, Field, Item, Link, Path, Times, Timing};
+use crate::fields::{
+    fields, numbers, Device, Entry, Field, Item, Link, Path, Reply, Times, Timing,
+};
 use crate::layout::hex;
 use crate::plan::Plan;
 use crate::source::Source;
 use crate::text::not_well_formed;
+use crate::ways::Way;
 use spwd::{Latencies, LATENCY_MOST, RATE_LEAST, RATE_MOST, SLOT_LENGTH_MOST};
 
 /// The field at an offset, in lines.
@@ -36,8 +39,10 @@ fn reasons(source: &Source, number: u8, before: &[Field], field: &Field) -> Vec<
         (7, Some(item)) => given_before(source, &plan, &item),
         (8, Some(item)) => not_given(&plan, &item),
         (9, Some(Item::Path(path))) => too_many(&plan, &path),
-        (10, Some(Item::Path(path))) => plan.walk(&path).err().into_iter().collect(),
+        (10, Some(Item::Path(path))) => plan.walk(&path.way()).err().into_iter().collect(),
+        (10, Some(Item::Reply(reply))) => no_walk_home(&plan, &reply),
         (11, Some(Item::Entry(entry))) => without_path(&plan, &entry),
+        (11, Some(Item::Reply(reply))) => without_command(&plan, &reply),
         _ => Vec::new(),
     }
 }
@@ -69,10 +74,21 @@ fn named(item: &Item) -> Vec<(&'static str, u8)> {
         Item::Link(Link { number, ends, .. }) => {
             [each("link", &[number]), each("device", &ends)].concat()
         }
-        Item::Path(path) => [
-            each("initiator", &[path.initiator]),
-            each("target", &[path.target]),
-            each("link", path.links),
+        Item::Path(Path {
+            initiator,
+            target,
+            links,
+            ..
+        })
+        | Item::Reply(Reply {
+            initiator,
+            target,
+            links,
+            ..
+        }) => [
+            each("initiator", &[initiator]),
+            each("target", &[target]),
+            each("link", links),
         ]
         .concat(),
         Item::Entry(entry) => [
@@ -107,6 +123,12 @@ fn out_of_range(item: &Item) -> Vec<String> {
             found.push(format!(
                 "the path leads from device {} to itself",
                 path.target
+            ));
+        }
+        Item::Reply(reply) if reply.initiator == reply.target => {
+            found.push(format!(
+                "the reply leads from device {} to itself",
+                reply.target
             ));
         }
         Item::Entry(entry) => found.extend(outside("span", entry.span.into(), 1, 16)),
@@ -180,6 +202,11 @@ fn given_before(source: &Source, plan: &Plan, item: &Item) -> Vec<String> {
             plan.entry(entry.initiator, entry.slot)
                 .map(|first| first.offset),
         ),
+        Item::Reply(reply) => (
+            format!("a reply from {} back to {}", reply.target, reply.initiator),
+            plan.reply(reply.initiator, reply.target)
+                .map(|first| first.offset),
+        ),
         Item::Timing(_) | Item::Times(_) => return Vec::new(),
     };
     let first = first.map(|offset| format!("{what} was given at {}", source.place(offset)));
@@ -227,7 +254,7 @@ fn too_many(plan: &Plan, path: &Path) -> Vec<String> {
     let mut found = Vec::new();
     let initiators = plan.initiators();
     if initiators.len() >= 8 && !initiators.contains(&path.initiator) {
-        let eight = crate::fields::numbers(&initiators);
+        let eight = numbers(&initiators);
         found.push(format!(
             "initiators so far: {eight}; {} would be one more",
             path.initiator
@@ -235,6 +262,40 @@ fn too_many(plan: &Plan, path: &Path) -> Vec<String> {
     }
     if plan.paths.len() >= 128 {
         found.push(format!("{} paths stand before this one", plan.paths.len()));
+    }
+    found
+}
+
+/// What keeps the links of a reply from being a walk from its target; and the links the other way round, where these are right.
+fn no_walk_home(plan: &Plan, reply: &Reply) -> Vec<String> {
+    let home = reply.way();
+    let mut found: Vec<_> = plan.walk(&home).err().into_iter().collect();
+    let out = Way {
+        from: home.to,
+        to: home.from,
+        ..home
+    };
+    if plan.walk(&out).is_ok() {
+        let (initiator, target) = (reply.initiator, reply.target);
+        let back: Vec<_> = reply.links.iter().rev().copied().collect();
+        let back = numbers(&back);
+        found.push(format!(
+            "the links lead from initiator {initiator} to target {target}; the way back is: reply {initiator} {target} {back}"
+        ));
+    }
+    found
+}
+
+/// A reply with no path: of its pair, though perhaps of the two the other way round.
+fn without_command(plan: &Plan, reply: &Reply) -> Vec<String> {
+    let (initiator, target) = (reply.initiator, reply.target);
+    let mut found = vec![format!(
+        "there is no path from initiator {initiator} to target {target}, and a reply belongs to one"
+    )];
+    if plan.path(target, initiator).is_some() {
+        found.push(format!(
+            "there is one from {target} to {initiator}: in a reply, too, the initiator stands first"
+        ));
     }
     found
 }

@@ -3,7 +3,7 @@
 use spwd::Latencies;
 use std::fmt::{self, Display, Formatter};
 
-/// A row of document 01's table of tags.
+/// A row of document 01's table of tags, and of those that change requests add.
 #[derive(Debug)]
 pub struct Tag {
     pub tag: u8,
@@ -12,13 +12,14 @@ pub struct Tag {
     pub most: usize,
 }
 
-pub const TAGS: [Tag; 6] = [
+pub const TAGS: [Tag; 7] = [
     tag(1, "device", 2, 2),
     tag(2, "link", 3, 3),
     tag(3, "path", 3, 10),
     tag(4, "entry", 4, 19),
     tag(5, "timing", 8, 8),
     tag(6, "slot times", 22, 22),
+    tag(7, "reply", 3, 10),
 ];
 
 const fn tag(tag: u8, name: &'static str, least: usize, most: usize) -> Tag {
@@ -129,6 +130,12 @@ fn item(offset: usize, tag: u8, content: &[u8]) -> Option<Item<'_>> {
             greatest: thirty_two(&content[least.len()..]),
         }),
         (6, &[high, low, ref numbers @ ..]) => Item::Times(times(offset, [high, low], numbers)?),
+        (7, &[initiator, target, ref links @ ..]) => Item::Reply(Reply {
+            offset,
+            initiator,
+            target,
+            links,
+        }),
         _ => return None,
     })
 }
@@ -155,6 +162,7 @@ pub enum Item<'a> {
     Entry(Entry<'a>),
     Timing(Timing),
     Times(Times),
+    Reply(Reply<'a>),
 }
 
 #[derive(Clone, Copy, Debug, PartialEq, Eq)]
@@ -206,11 +214,13 @@ pub struct Times {
     pub slot_length: u32,
 }
 
-impl Path<'_> {
-    /// The links less one.
-    pub fn routers(&self) -> u8 {
-        self.links.len().saturating_sub(1) as u8
-    }
+/// The way home of a pair's reply, from its target to its initiator.
+#[derive(Clone, Copy, Debug, PartialEq, Eq)]
+pub struct Reply<'a> {
+    pub offset: usize,
+    pub initiator: u8,
+    pub target: u8,
+    pub links: &'a [u8],
 }
 
 impl Entry<'_> {
@@ -264,6 +274,7 @@ impl Display for Item<'_> {
                 write!(out, "greatest {}", timing.greatest)
             }
             Item::Times(times) => write!(out, "slot times: {}", times.in_words().join(", ")),
+            Item::Reply(reply) => reply.fmt(out),
         }
     }
 }
@@ -286,6 +297,17 @@ impl Display for Path<'_> {
         write!(
             out,
             "path from initiator {initiator} to target {target} over {links}"
+        )
+    }
+}
+
+impl Display for Reply<'_> {
+    fn fmt(&self, out: &mut Formatter<'_>) -> fmt::Result {
+        let (initiator, target) = (self.initiator, self.target);
+        let links = named("link", self.links);
+        write!(
+            out,
+            "reply from target {target} back to initiator {initiator} over {links}"
         )
     }
 }

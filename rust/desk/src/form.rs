@@ -10,7 +10,7 @@ struct Form {
     form: &'static str,
 }
 
-const FORMS: [Form; 8] = [
+const FORMS: [Form; 9] = [
     form("node", 1, 1, "node N"),
     form("router", 1, 1, "router N"),
     form("link", 3, 3, "link N A B (link N joins devices A and B)"),
@@ -32,6 +32,12 @@ const FORMS: [Form; 8] = [
         6,
         6,
         "times S A D F G SLOT (S Mbit/s, latencies A D F G and slot length SLOT in ns)",
+    ),
+    form(
+        "reply",
+        3,
+        MOST,
+        "reply I T L.. (from target T back to initiator I over the links L)",
     ),
     form(
         "bytes",
@@ -159,6 +165,7 @@ fn bytes_of(first: &str, words: &[&str]) -> Result<Vec<u8>, Vec<String>> {
         "entry" => Ok(field(4, &each(words, byte)?)),
         "intervals" => Ok(field(5, &each(words, long)?.concat())),
         "times" => times(words),
+        "reply" => Ok(field(7, &each(words, byte)?)),
         _ => each(words, hex),
     }
 }

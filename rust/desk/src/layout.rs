@@ -50,3 +50,10 @@ pub fn wrapped(head: &str, words: &[String]) -> Vec<String> {
     lines.push(line);
     lines
 }
+
+/// Words with a comma behind each but the last.
+pub fn commas(mut words: Vec<String>) -> Vec<String> {
+    let last = words.len().saturating_sub(1);
+    words.iter_mut().take(last).for_each(|word| word.push(','));
+    words
+}

@@ -23,4 +23,5 @@ pub mod source;
 pub mod streams;
 pub mod text;
 pub mod times;
+pub mod ways;
 pub mod words;

@@ -1,4 +1,4 @@
-//! An accepted plan's network: devices, links, paths, intervals, slot times.
+//! An accepted plan's network: devices, links, paths and replies, intervals, slot times.
 
 use crate::layout::{wrapped, WIDTH};
 use crate::plan::Plan;
@@ -55,8 +55,16 @@ fn paths(plan: &Plan) -> Vec<String> {
     let mut lines = vec!["paths".to_string()];
     for path in &plan.paths {
         let (initiator, target) = (path.initiator, path.target);
-        let walk = plan.drawn(path, None);
+        let walk = plan.drawn(&path.way(), None);
         lines.push(format!("  {initiator} to {target}: {walk}"));
+        lines.extend(plan.reply(initiator, target).map(|reply| {
+            let walk = plan.drawn(&reply.way(), None);
+            format!("    reply: {walk}")
+        }));
+    }
+    if (1..plan.paths.len()).contains(&plan.replies.len()) {
+        lines
+            .push("  where no reply is drawn, it goes back over the links of the path".to_string());
     }
     lines
 }

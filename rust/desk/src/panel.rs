@@ -7,7 +7,7 @@ use crate::script::{line_of, Command, Line};
 use crate::sheet::Asked;
 use crate::times::over_time;
 use crate::words::{self, Row};
-use spwd::{records, sheet, Record, Refusal, Spwd, Verdict, Watchdog, WRITTEN_MOST};
+use spwd::{records, Record, Refusal, Spwd, Verdict, Watchdog, WRITTEN_MOST};
 
 /// A box and the line that its panel shows next.
 pub struct Panel {
@@ -202,7 +202,7 @@ impl Panel {
 fn time(asked: &Asked, length: u16) -> String {
     let (routers, rate) = (words::routers(asked.routers), asked.rate);
     let what = format!("sheet: {routers}, {rate} Mbit/s, {}", words::bytes(length));
-    match sheet(asked.routers, rate, length, asked.latencies) {
+    match asked.sheet(length) {
         Ok(sheet) => format!("{what}: {} ns", sheet.total),
         Err(refusal) => {
             let why = asked.out_of_range(&[length]).join("; ");

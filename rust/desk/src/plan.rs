@@ -1,6 +1,9 @@
 //! The plan that the fields of a file give, to look things up in. Whether it may be loaded is for the box to say.
 
-use crate::fields::{fields, Device, Entry, Field, Item, Link, Path, Times, Timing};
+use crate::fields::{
+    fields, numbers, Device, Entry, Field, Item, Link, Path, Reply, Times, Timing,
+};
+use crate::ways::{Routers, Way};
 
 #[derive(Debug, Default)]
 pub struct Plan<'a> {
@@ -10,6 +13,7 @@ pub struct Plan<'a> {
     pub entries: Vec<Entry<'a>>,
     pub timing: Option<Timing>,
     pub times: Option<Times>,
+    pub replies: Vec<Reply<'a>>,
 }
 
 impl<'a> Plan<'a> {
@@ -28,6 +32,7 @@ impl<'a> Plan<'a> {
                 Item::Entry(entry) => plan.entries.push(entry),
                 Item::Timing(timing) => plan.timing = Some(timing),
                 Item::Times(times) => plan.times = Some(times),
+                Item::Reply(reply) => plan.replies.push(reply),
             }
         }
         plan
@@ -49,6 +54,25 @@ impl<'a> Plan<'a> {
             .iter()
             .find(|path| (path.initiator, path.target) == (initiator, target));
         found.copied()
+    }
+
+    /// The way home of a pair's reply, where it has its own.
+    pub fn reply(&self, initiator: u8, target: u8) -> Option<Reply<'a>> {
+        let found = self
+            .replies
+            .iter()
+            .find(|reply| (reply.initiator, reply.target) == (initiator, target));
+        found.copied()
+    }
+
+    /// Of a transaction over a path. Without a way of its own the reply goes back over the path's links.
+    pub fn routers(&self, path: &Path) -> Routers {
+        let command = path.way().routers();
+        let reply = self.reply(path.initiator, path.target);
+        Routers {
+            command,
+            reply: reply.map_or(command, |reply| reply.way().routers()),
+        }
     }
 
     pub fn entry(&self, initiator: u8, slot: u8) -> Option<Entry<'a>> {
@@ -82,19 +106,19 @@ impl<'a> Plan<'a> {
         targets
     }
 
-    /// The devices that a path meets, its initiator first; or what keeps it from being a walk.
-    pub fn walk(&self, path: &Path) -> Result<Vec<u8>, String> {
-        let mut met = vec![path.initiator];
-        let mut here = path.initiator;
-        for (place, &link) in path.links.iter().enumerate() {
-            here = self.step(here, link)?;
+    /// The devices that a way meets, the one where it begins first; or what keeps its links from being a walk.
+    pub fn walk(&self, way: &Way) -> Result<Vec<u8>, String> {
+        let mut met = vec![way.from];
+        let mut here = way.from;
+        for (place, &link) in way.links.iter().enumerate() {
+            here = self.step(way, place, here, link)?;
             if met.contains(&here) {
                 return Err(format!(
                     "link {link} leads back to device {here}, which was met before"
                 ));
             }
             met.push(here);
-            let last = place + 1 == path.links.len();
+            let last = place + 1 == way.links.len();
             let router = self.device(here).is_some_and(|device| device.kind == 1);
             if !last && !router {
                 return Err(format!(
@@ -102,35 +126,37 @@ impl<'a> Plan<'a> {
                 ));
             }
         }
-        let target = path.target;
-        if here != target {
+        if here != way.to {
+            let (end, to) = (way.ends[1], way.to);
             return Err(format!(
-                "the last link leads to device {here}, and the target is {target}"
+                "the last link leads to device {here}, and the {end} is {to}"
             ));
         }
         Ok(met)
     }
 
     /// The device at the other end of a link.
-    fn step(&self, here: u8, link: u8) -> Result<u8, String> {
+    fn step(&self, way: &Way, place: usize, here: u8, link: u8) -> Result<u8, String> {
         let [one, other] = self
             .link(link)
             .ok_or(format!("link {link} was not given"))?
             .ends;
+        let (name, begin) = (way.name, way.ends[0]);
         match (here == one, here == other) {
             (true, _) => Ok(other),
             (_, true) => Ok(one),
-            _ => Err(format!("link {link} joins devices {one} and {other} and does not touch {here}, where the path is by then")),
+            _ if place == 0 => Err(format!("link {link} joins devices {one} and {other} and does not touch {begin} {here}, where a {name} begins")),
+            _ => Err(format!("link {link} joins devices {one} and {other} and does not touch {here}, where the {name} is by then")),
         }
     }
 
-    /// A path as a walk, "1 -0- 10 -2- 3"; a link to be shown stands between double lines, "1 =0= 10".
-    pub fn drawn(&self, path: &Path, shown: Option<u8>) -> String {
-        let Ok(met) = self.walk(path) else {
-            return path.to_string();
+    /// A way as a walk, "1 -0- 10 -2- 3"; a link to be shown stands between double lines, "1 =0= 10".
+    pub fn drawn(&self, way: &Way, shown: Option<u8>) -> String {
+        let Ok(met) = self.walk(way) else {
+            return format!("over links {}", numbers(way.links));
         };
-        let mut drawn = path.initiator.to_string();
-        for (&link, device) in path.links.iter().zip(&met[1..]) {
+        let mut drawn = way.from.to_string();
+        for (&link, device) in way.links.iter().zip(&met[1..]) {
             let line = if shown == Some(link) { '=' } else { '-' };
             drawn += &format!(" {line}{link}{line} {device}");
         }

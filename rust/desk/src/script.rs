@@ -1,6 +1,7 @@
 //! A line of the script that `replay` reads, as a command: words separated by one space, decimal numbers, bytes in lowercase hex.
 
 use crate::sheet::Asked;
+use crate::ways::Routers;
 use spwd::Latencies;
 
 #[derive(Debug, PartialEq, Eq)]
@@ -96,16 +97,27 @@ fn command_of(line: &[u8]) -> Option<Command> {
             long(least)?,
             long(greatest)?,
         ])),
-        (b"sheet", [routers, rate, length, latencies @ ..]) => Some(Command::Sheet {
-            asked: Asked {
-                routers: byte(routers)?,
-                rate: short(rate)?,
-                latencies: four(latencies)?,
-            },
-            length: short(length)?,
-        }),
+        (b"sheet", [routers, rest @ ..]) => sheet(Routers::both(byte(routers)?), rest),
+        (b"sheet2", [command, reply, rest @ ..]) => {
+            let (command, reply) = (byte(command)?, byte(reply)?);
+            sheet(Routers { command, reply }, rest)
+        }
         _ => None,
     }
+}
+
+/// The sheet of these routers: rate, length and latencies.
+fn sheet(routers: Routers, words: &[&[u8]]) -> Option<Command> {
+    let [rate, length, latencies @ ..] = words else {
+        return None;
+    };
+    let asked = Asked {
+        routers,
+        rate: short(rate)?,
+        latencies: four(latencies)?,
+    };
+    let length = short(length)?;
+    Some(Command::Sheet { asked, length })
 }
 
 /// Decimal digits, at least one; leading zeros are allowed.

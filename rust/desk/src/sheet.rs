@@ -1,13 +1,15 @@
 //! The counter's sheet: how long transactions take, by themselves and under a plan. Every time is that of the proved sheet.
 
 use crate::fault::{outside, rate_or_latencies};
-use crate::fields::{fields, Times};
-use crate::layout::wrapped;
+use crate::fields::{fields, Field, Times};
+use crate::layout::{commas, wrapped};
 use crate::plan::Plan;
 use crate::text::times_line;
 use crate::times::{longest, spans, Longest};
+use crate::ways::Routers;
 use crate::words::{self, TERMS};
-use spwd::{sheet, Latencies, Sheet, LENGTH_MOST, ROUTERS_MOST, SLOT_LENGTH_MOST};
+use spwd::{sheet2, Latencies, Sheet, SheetOutOfRange};
+use spwd::{LENGTH_MOST, ROUTERS_MOST, SLOT_LENGTH_MOST};
 
 /// Lengths whose times are shown of a path.
 const LENGTHS: [u16; 5] = [0, 64, 256, 1_024, 4_096];
@@ -19,7 +21,7 @@ const BESIDE: usize = 4;
 /// What a sheet by itself is of, but for its lengths.
 #[derive(Clone, Copy, Debug, PartialEq, Eq)]
 pub struct Asked {
-    pub routers: u8,
+    pub routers: Routers,
     pub rate: u16,
     pub latencies: Latencies,
 }
@@ -38,10 +40,15 @@ impl Asked {
         Ok(lines)
     }
 
+    /// The proved sheet of a length.
+    pub fn sheet(&self, length: u16) -> Result<Sheet, SheetOutOfRange> {
+        let Routers { command, reply } = self.routers;
+        sheet2(command, reply, self.rate, length, self.latencies)
+    }
+
     /// The nine terms of a length in the order of their letters, and the total.
     fn column(&self, length: u16) -> Option<[u32; 10]> {
         let Latencies { a, d, f, g } = self.latencies;
-        let sheet = sheet(self.routers, self.rate, length, self.latencies).ok()?;
         let Sheet {
             total,
             b,
@@ -49,14 +56,21 @@ impl Asked {
             e,
             h,
             i,
-        } = sheet;
+        } = self.sheet(length).ok()?;
         Some([a, b, c, d, e, f, g, h, i, total])
     }
 
     /// What is out of range, of the sheets of these lengths.
     pub fn out_of_range(&self, lengths: &[u16]) -> Vec<String> {
-        let routers = outside("routers", self.routers.into(), 0, ROUTERS_MOST.into());
-        let mut found: Vec<_> = routers.into_iter().collect();
+        let Routers { command, reply } = self.routers;
+        let outside_of = |name, count: u8| outside(name, count.into(), 0, ROUTERS_MOST.into());
+        let mut found = Vec::new();
+        if command == reply {
+            found.extend(outside_of("routers", command));
+        } else {
+            found.extend(outside_of("routers out", command));
+            found.extend(outside_of("routers back", reply));
+        }
         found.extend(rate_or_latencies(self.rate, self.latencies));
         let length = |&length: &u16| outside("length", length.into(), 0, LENGTH_MOST.into());
         found.extend(lengths.iter().filter_map(length));
@@ -80,12 +94,16 @@ fn row(name: &str, numbers: impl Iterator<Item = impl ToString>) -> String {
     format!("  {name:<NAME$}{}", numbers.collect::<String>())
 }
 
-/// A plan file with these bytes of a field 06 in the place of its own.
+/// A plan file with these bytes of a field 06 in the place of its own; replies stand behind it.
 pub fn with_times(file: &[u8], times: &[u8]) -> Vec<u8> {
-    let others = fields(file).into_iter().filter(|field| field.tag() != 6);
-    let mut bytes: Vec<_> = others.map(|field| field.bytes).collect();
-    bytes.push(times);
-    bytes.concat()
+    let fields = fields(file);
+    let others = fields.iter().filter(|field| field.tag() != 6);
+    let (before, behind): (Vec<_>, Vec<_>) = others.partition(|field| field.tag() < 6);
+    let bytes = |fields: Vec<&Field>| -> Vec<u8> {
+        let bytes: Vec<_> = fields.iter().map(|field| field.bytes).collect();
+        bytes.concat()
+    };
+    [&bytes(before), times, &bytes(behind)].concat()
 }
 
 /// The sheet of an accepted plan; `own` is whether its times are its own.
@@ -115,7 +133,7 @@ pub fn in_words(times: &Times) -> Vec<String> {
 fn without_times(plan: &Plan) -> Vec<String> {
     let mut lines = vec!["the routers of each path".to_string()];
     for path in &plan.paths {
-        let routers = words::routers(path.routers());
+        let routers = words::routers(plan.routers(path));
         lines.push(format!(
             "  {} to {}: {routers}",
             path.initiator, path.target
@@ -125,7 +143,7 @@ fn without_times(plan: &Plan) -> Vec<String> {
         [
             "",
             "the plan has no slot times, and so no rate: 256 bytes are permitted for each",
-            "slot of a span, whatever time they take; a last line of its text gives them:",
+            "slot of a span, whatever time they take; a line behind the intervals gives them:",
             "  times S A D F G SLOT",
             "  S is the rate in Mbit/s, A D F G are the latencies and SLOT is the length of",
             "  a slot in ns; to try some: spwd-sheet --times S A D F G SLOT FILE",
@@ -141,15 +159,32 @@ fn times_of_paths(plan: &Plan, times: &Times) -> Vec<String> {
     lines.push(format!("  {:<9}{:>8}{lengths}", "path", "routers"));
     for path in &plan.paths {
         let name = format!("{} to {}", path.initiator, path.target);
-        let time = |length| times.time(path, length).unwrap_or_default();
+        let routers = plan.routers(path);
+        let time = |length| times.time(routers, length).unwrap_or_default();
         let numbers = LENGTHS.map(|length| format!("{:>10}", time(length)));
-        lines.push(format!(
-            "  {name:<9}{:>8}{}",
-            path.routers(),
-            numbers.concat()
-        ));
+        let routers = in_column(routers);
+        lines.push(format!("  {name:<9}{routers:>8}{}", numbers.concat()));
+    }
+    let ways = |path| plan.routers(path);
+    if plan
+        .paths
+        .iter()
+        .map(ways)
+        .any(|ways| ways.command != ways.reply)
+    {
+        lines.push("  routers C, R: C on the command's way, R on the reply's".to_string());
     }
     lines
+}
+
+/// The routers of a path; and those of its reply, where they are not as many.
+fn in_column(routers: Routers) -> String {
+    let Routers { command, reply } = routers;
+    if command == reply {
+        command.to_string()
+    } else {
+        format!("{command}, {reply}")
+    }
 }
 
 fn largest_lengths(plan: &Plan, times: &Times) -> Vec<String> {
@@ -158,7 +193,7 @@ fn largest_lengths(plan: &Plan, times: &Times) -> Vec<String> {
     for path in &plan.paths {
         let mut largest = Vec::new();
         for span in spans(plan, path) {
-            let length = times.largest(path, span);
+            let length = times.largest(plan.routers(path), span);
             let length = length.map_or("none".to_string(), |length| length.to_string());
             largest.push(format!("span {span}: {length}"));
         }
@@ -169,13 +204,6 @@ fn largest_lengths(plan: &Plan, times: &Times) -> Vec<String> {
         lines.extend(wrapped(&head, &commas(largest)));
     }
     lines
-}
-
-/// Words with a comma behind each but the last.
-fn commas(mut words: Vec<String>) -> Vec<String> {
-    let last = words.len().saturating_sub(1);
-    words.iter_mut().take(last).for_each(|word| word.push(','));
-    words
 }
 
 /// The least slot length that permits as much as a plan without times does. An accepted plan has an entry that says it.

@@ -29,6 +29,7 @@ fn lines(field: &Field) -> Vec<String> {
             vec![format!("intervals {} {}", timing.least, timing.greatest)]
         }
         Some(Item::Times(times)) => vec![times_line(&times)],
+        Some(Item::Reply(_)) => vec![format!("reply {}", numbers(field.content()))],
         None => bytes(field, &not_well_formed(field)),
     }
 }
@@ -54,12 +55,12 @@ pub fn not_well_formed(field: &Field) -> String {
             format!("the file ends in this field: of {length} bytes of content it has {left}")
         }
         None => format!(
-            "tag {:02x}, length {length}; tags are 01 to 06",
+            "tag {:02x}, length {length}; tags are 01 to 07",
             field.tag()
         ),
         Some(row) => {
             let right = match row.tag {
-                3 => "3 to 10 (1 to 8 links)".to_string(),
+                3 | 7 => "3 to 10 (1 to 8 links)".to_string(),
                 4 => "4 to 19 (1 to 16 targets)".to_string(),
                 _ => row.least.to_string(),
             };

@@ -2,16 +2,18 @@
 
 use crate::fields::{Entry, Path, Times};
 use crate::plan::Plan;
+use crate::ways::Routers;
 use crate::words;
-use spwd::{sheet, LENGTH_MOST};
+use spwd::{sheet2, LENGTH_MOST};
 
 /// Data bytes for each slot of a span, where a plan has no times.
 const A_SLOT: u16 = 256;
 
 impl Times {
     /// The time of a transaction in nanoseconds; nothing where a number is out of range, as none of an accepted plan is.
-    pub fn time(&self, path: &Path, length: u16) -> Option<u32> {
-        let sheet = sheet(path.routers(), self.rate, length, self.latencies);
+    pub fn time(&self, routers: Routers, length: u16) -> Option<u32> {
+        let Routers { command, reply } = routers;
+        let sheet = sheet2(command, reply, self.rate, length, self.latencies);
         sheet.ok().map(|sheet| sheet.total)
     }
 
@@ -20,18 +22,18 @@ impl Times {
         u64::from(span) * u64::from(self.slot_length)
     }
 
-    fn fits(&self, path: &Path, length: u16, span: u8) -> bool {
-        let time = self.time(path, length);
+    fn fits(&self, routers: Routers, length: u16, span: u8) -> bool {
+        let time = self.time(routers, length);
         time.is_some_and(|time| u64::from(time) <= self.time_of(span))
     }
 
     /// The largest length whose time fits a span; nothing where not even length 0 does.
-    pub fn largest(&self, path: &Path, span: u8) -> Option<u16> {
+    pub fn largest(&self, routers: Routers, span: u8) -> Option<u16> {
         // How many lengths fit: a longer one never takes less time.
         let (mut least, mut most) = (0, LENGTH_MOST + 1);
         while least < most {
             let middle = (least + most) / 2;
-            if self.fits(path, middle, span) {
+            if self.fits(routers, middle, span) {
                 least = middle + 1;
             } else {
                 most = middle;
@@ -59,7 +61,7 @@ pub fn never(plan: &Plan) -> Vec<Never> {
     let mut found = Vec::new();
     for path in &plan.paths {
         for span in spans(plan, path) {
-            if times.largest(path, span).is_none() {
+            if times.largest(plan.routers(path), span).is_none() {
                 let entries = entries_over(plan, path);
                 let slots = entries.filter(|entry| entry.span == span);
                 found.push(Never {
@@ -107,7 +109,7 @@ pub fn longest<'a>(plan: &Plan<'a>, times: &Times) -> Option<Longest<'a>> {
         for &target in entry.targets {
             let path = plan.path(entry.initiator, target)?;
             let length = A_SLOT * u16::from(entry.span);
-            let time = times.time(&path, length)?;
+            let time = times.time(plan.routers(&path), length)?;
             let slot_length = time.div_ceil(entry.span.into());
             if longest
                 .as_ref()
@@ -131,8 +133,9 @@ pub fn over_time(plan: &Plan, initiator: u8, target: u8, length: u16) -> Option<
     let times = plan.times?;
     let path = plan.path(initiator, target)?;
     let span = times.time_of(*spans(plan, &path).last()?);
-    let time = times.time(&path, length)?;
-    let (bytes, routers) = (words::bytes(length), words::routers(path.routers()));
+    let routers = plan.routers(&path);
+    let time = times.time(routers, length)?;
+    let (bytes, routers) = (words::bytes(length), words::routers(routers));
     Some(format!(
         "by the plan's slot times: {bytes} over {routers}: {time} ns; longest span to target {target}: {span} ns"
     ))

@@ -1,6 +1,7 @@
 //! The words of docs/CARD.md for verdicts, refusals, records and the terms of a sheet, and the short ones of a panel. tests/card.rs holds
 //! them against the card.
 
+use crate::ways::Routers;
 use spwd::{Record, ERROR, READ, SUCCESS, WRITE};
 
 /// A row of the card: what a number means and what to do about it.
@@ -45,55 +46,55 @@ pub const VERDICTS: [Row; 16] = [
         3,
         "offset",
         "a field of a kind that does not exist",
-        "the file is damaged, or made for another box; kinds are 01 to 06",
+        "the file is damaged, or made for another box; kinds are 01 to 07",
     ),
     row(
         4,
         "offset",
         "a field out of order, or a second field of timing or of slot times",
-        "devices, links, paths, entries, timing, slot times: in this order; the last two once",
+        "devices, links, paths, entries, timing, slot times, replies: in this order; timing and slot times once",
     ),
     row(
         5,
         "offset",
         "a field of a wrong length",
-        "too many links in a path (8) or targets in an entry (16), none at all, or damage",
+        "too many links in a path or reply (8) or targets in an entry (16), none at all, or damage",
     ),
     row(
         6,
         "offset",
-        "a number out of range, or a link or path from a device to itself",
+        "a number out of range, or a link, path or reply from a device to itself",
         "devices, links and slots are 0 to 63, spans 1 to 16, kinds 0 and 1; greatest interval 1 to 2,147,483,647 and not below the least; rate 2 to 400 Mbit/s, latencies and slot length up to 1,000,000 ns",
     ),
     row(
         7,
         "offset",
         "given a second time",
-        "the device, link, path or entry stands earlier in the file, or a target stands twice in this entry",
+        "the device, link, path, entry or reply stands earlier in the file, or a target stands twice in this entry",
     ),
     row(
         8,
         "offset",
         "something is named that was not given, or a router as initiator or target",
-        "give the device or link first; initiators and targets are nodes",
+        "give the device or link first; initiators and targets are nodes, in a reply too",
     ),
     row(
         9,
         "offset",
         "a ninth initiator, or path number 129",
-        "the box runs 8 initiators and 128 paths",
+        "the box runs 8 initiators and 128 paths; replies are not counted",
     ),
     row(
         10,
         "offset",
-        "the links of a path do not lead from its initiator to its target",
-        "they must join end to end, over routers, meeting no device twice",
+        "the links of a path do not lead from its initiator to its target, or those of a reply not from the target back to the initiator",
+        "they must join end to end, over routers, meeting no device twice; a reply's begin at the target",
     ),
     row(
         11,
         "offset",
-        "an entry names a target to which its initiator has no path",
-        "add the path or take the target out",
+        "an entry names a target to which its initiator has no path, or a reply comes from such a target",
+        "add the path, or take the target or the reply out",
     ),
     row(
         12,
@@ -110,8 +111,8 @@ pub const VERDICTS: [Row; 16] = [
     row(
         14,
         "slot, two initiators, link",
-        "in this slot both may be using this link",
-        "move one of the two, or take the targets apart that share the link",
+        "in this slot both may be using this link, for a command or for a reply",
+        "move one of the two, or take the targets apart that share the link; if only a reply's own way does, choose another",
     ),
     row(
         15,
@@ -291,10 +292,14 @@ pub fn bytes(length: u16) -> String {
     }
 }
 
-pub fn routers(count: u8) -> String {
-    match count {
-        1 => "1 router".to_string(),
-        _ => format!("{count} routers"),
+/// "1 router"; "1 router out, 2 back" where the reply has another number of them.
+pub fn routers(routers: Routers) -> String {
+    let Routers { command, reply } = routers;
+    let plural = if command == 1 { "" } else { "s" };
+    if command == reply {
+        format!("{command} router{plural}")
+    } else {
+        format!("{command} router{plural} out, {reply} back")
     }
 }
 

@@ -71,7 +71,8 @@ fn every_plan_in_hex() {
 fn every_item() {
     let text = b"# only a comment\n\n   node   007#x\n\trouter\t255 # \xc3\xa4 \xff\nlink 0 1 000000000000000000002\n\
         path 1 2 3 4 5 6 7 8 9 10 11 12\nentry 1 64 0 9 9\nintervals 66051 4294967295\n\
-        times 258 0 1 256 65536 4294967295\nbytes 0a Fb FF 00\n   # end";
+        times 258 0 1 256 65536 4294967295\n reply 2  1 255\nreply 1 2 3 4 5 6 7 8 9 10 11 12\n\
+        bytes 0a Fb FF 00\n   # end";
     let ran = run(COMPILE, &["-"], text);
     #[rustfmt::skip]
     let file = [
@@ -82,6 +83,8 @@ fn every_item() {
         4, 0, 5, 1, 64, 0, 9, 9,
         5, 0, 8, 0, 1, 2, 3, 255, 255, 255, 255,
         6, 0, 22, 1, 2, 0, 0, 0, 0, 0, 0, 0, 1, 0, 0, 1, 0, 0, 1, 0, 0, 255, 255, 255, 255,
+        7, 0, 3, 2, 1, 255,
+        7, 0, 12, 1, 2, 3, 4, 5, 6, 7, 8, 9, 10, 11, 12,
         10, 251, 255, 0,
     ];
     assert_eq!(ran.out, file);
@@ -145,7 +148,7 @@ fn back_for_fields_by_chance() {
         let mut file = Vec::new();
         for _ in 0..chance.below(20) {
             let length = chance.below(25);
-            file.extend([chance.below(8) as u8, 0, length as u8]);
+            file.extend([chance.below(9) as u8, 0, length as u8]);
             file.extend((0..length).map(|_| chance.byte() >> chance.below(8)));
         }
         file.truncate(file.len().saturating_sub(chance.below(3)));
@@ -162,10 +165,13 @@ fn back_in_words() {
         1, 0, 2, 9, 2,
         1, 0, 1, 7,
         3, 0, 2, 1, 2,
-        7, 0, 0,
+        8, 0, 0,
         5, 0, 8, 0, 0, 0, 90, 0, 0, 0, 110,
         6, 0, 0,
         6, 0, 22, 0, 200, 0, 0, 19, 136, 0, 0, 19, 136, 0, 0, 0, 0, 255, 255, 255, 255, 0, 0, 154, 26,
+        7, 0, 3, 1, 2, 255,
+        7, 0, 2, 1, 2,
+        7, 0, 11, 1, 2, 3, 4, 5, 6, 7, 8, 9, 10, 11,
         5, 0,
     ];
     let ran = run(COMPILE, &["--text", "-"], &file);
@@ -211,6 +217,15 @@ fn refused_with_its_line() {
             "compile/sample-intervals.txt",
         ),
         ("plans/no-entry.plan", "compile/no-entry.txt"),
+        ("plans/reply-clash.plan", "compile/reply-clash.txt"),
+        (
+            "plans/reply-without-path.plan",
+            "compile/reply-without-path.txt",
+        ),
+        (
+            "plans/reply-from-initiator.plan",
+            "compile/reply-from-initiator.txt",
+        ),
     ] {
         let ran = run(COMPILE, &[plan], b"");
         assert_eq!(ran.err, expected(stored), "{plan}");

@@ -5,6 +5,7 @@ mod common;
 use common::{expected, root, run, PANEL};
 use desk::script::{line_of, Command, Line};
 use desk::sheet::Asked;
+use desk::ways::Routers;
 use spwd::Latencies;
 use std::fs;
 use std::io::{BufRead, BufReader, Write};
@@ -33,6 +34,12 @@ fn everything() {
 #[test]
 fn slot_times() {
     plays(&[], "times.txt", "panel/times.txt", 0);
+}
+
+/// A plan with a reply that comes home another way: its routers decide on lengths.
+#[test]
+fn replies() {
+    plays(&[], "replies.txt", "panel/replies.txt", 0);
 }
 
 #[test]
@@ -143,6 +150,19 @@ fn ranges() {
                 4_294_967_295,
             ],
         ),
+        (
+            "sheet2",
+            &[
+                255,
+                255,
+                65_535,
+                65_535,
+                4_294_967_295,
+                4_294_967_295,
+                4_294_967_295,
+                4_294_967_295,
+            ],
+        ),
     ] {
         let line = |numbers: &[u64]| {
             let words: Vec<_> = numbers.iter().map(u64::to_string).collect();
@@ -205,13 +225,20 @@ fn numbers_in_their_places() {
         f: 6,
         g: 7,
     };
-    let asked = Asked {
-        routers: 1,
-        rate: 2,
-        latencies,
+    let asked = |routers| Command::Sheet {
+        asked: Asked {
+            routers,
+            rate: 2,
+            latencies,
+        },
+        length: 3,
     };
-    let sheet = Command::Sheet { asked, length: 3 };
-    assert_eq!(command("sheet 1 2 3 4 5 6 7"), sheet);
+    assert_eq!(command("sheet 1 2 3 4 5 6 7"), asked(Routers::both(1)));
+    let two = Routers {
+        command: 8,
+        reply: 9,
+    };
+    assert_eq!(command("sheet2 8 9 2 3 4 5 6 7"), asked(two));
     assert_eq!(command("load 0fa0"), Command::Load(vec![0x0f, 0xa0]));
     assert_eq!(command("wd"), Command::Watchdog);
     assert_eq!(command("clear"), Command::Clear);

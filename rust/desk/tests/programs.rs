@@ -84,6 +84,7 @@ fn words_that_do_not_go_together() {
         "spwd-show: --text and --bytes exclude each other; see spwd-show --help\n",
     );
     let alone = ["--routers", "1", "--rate", "200"];
+    let reply = ["--reply-routers", "2"];
     let latencies = ["--latencies", "0", "0", "0", "0"];
     let times = ["--times", "200", "0", "0", "0", "0", "0"];
     for (words, said) in [
@@ -101,6 +102,26 @@ fn words_that_do_not_go_together() {
             "behind --routers stand 0 words and should stand 1",
         ),
         (&[&alone], "--routers, --rate and --latencies go together"),
+        (
+            &[&reply, &["plans/guide.plan"]],
+            "--reply-routers goes with --routers",
+        ),
+        (
+            &[&reply, &alone[2..], &latencies, &["0"]],
+            "--reply-routers goes with --routers",
+        ),
+        (
+            &[&alone, &reply],
+            "--routers, --rate and --latencies go together",
+        ),
+        (
+            &[&alone, &reply, &reply, &latencies, &["0"]],
+            "--reply-routers stands twice",
+        ),
+        (
+            &[&alone, &latencies, &["--reply-routers", "256", "0"]],
+            "256 is too great; right is a number from 0 to 255",
+        ),
         (
             &[&latencies, &["0"]],
             "--routers, --rate and --latencies go together",

@@ -1,4 +1,5 @@
-//! Whatever is refused is put into words: plans damaged by chance, until every verdict was seen, and those that slot times can get.
+//! Whatever is refused is put into words: plans damaged by chance, until every verdict was seen, and those that slot times and replies can
+//! get.
 
 mod common;
 
@@ -77,15 +78,16 @@ fn explained(file: &[u8], verdict: &Verdict, lines: &[String]) {
             assert!(entries >= 2, "{verdict}: {lines:?}");
         }
         Verdict::Refused(Fault::Clash { link, .. }) => {
-            let entries = behind
-                .iter()
-                .filter(|line| line.starts_with("  entry of "))
-                .count();
-            let walks = behind
-                .iter()
-                .filter(|line| line.contains(&format!(" ={link}= ")))
-                .count();
-            assert!(entries == 2 && walks >= 2, "{verdict}: {lines:?}");
+            // Behind each of the two entries stands a way of it over the link.
+            let parts: Vec<_> = behind
+                .split(|line| line.starts_with("  entry of "))
+                .collect();
+            let walk = |line: &String| line.contains(&format!(" ={link}= "));
+            let walks = parts[1..].iter().filter(|part| part.iter().any(walk));
+            assert!(
+                parts.len() == 3 && walks.count() == 2,
+                "{verdict}: {lines:?}"
+            );
         }
     }
 }
@@ -104,8 +106,8 @@ fn no_entry(plan: &Plan, behind: &[String]) {
     }
 }
 
-#[test]
-fn every_refusal_is_explained() {
+/// What is damaged: the plans of the project, and others that some verdicts are near at hand of.
+fn whole_files() -> Vec<Vec<u8>> {
     let mut whole: Vec<_> = plans("plans").iter().map(|plan| bytes(plan)).collect();
     // A plan with 128 paths, so that one more is at hand, and one that is too long.
     whole.push(many_paths());
@@ -113,9 +115,19 @@ fn every_refusal_is_explained() {
     // Timing and slot times alone, so that one of them is soon given twice.
     let alone = desk::form::compile(b"intervals 90 110\ntimes 200 0 0 0 0 30000");
     whole.push(alone.unwrap().bytes);
+    // A reply of every path; one that is given twice; and two that meet the other's command.
+    for name in ["replies", "verdict-7-reply", "verdict-14-reply"] {
+        whole.push(bytes(&format!("rust/desk/tests/plans/{name}.plan")));
+    }
+    whole
+}
+
+#[test]
+fn every_refusal_is_explained() {
+    let whole = whole_files();
     let mut chance = Chance(0x5eed_0003);
     let mut seen = [0; 16];
-    let mut of_times = BTreeSet::new();
+    let (mut of_tags, mut by_a_reply) = (BTreeSet::new(), 0);
     for _ in 0..20_000 {
         let plan = &whole[chance.below(whole.len())];
         let file = damaged(&mut chance, plan);
@@ -128,14 +140,20 @@ fn every_refusal_is_explained() {
         seen[usize::from(verdict.number())] += 1;
         if let Verdict::Refused(Fault::File { number, place }) = verdict {
             let tag = file.get(usize::from(place));
-            of_times.extend((tag == Some(&6)).then_some(number));
+            of_tags.extend(tag.map(|&tag| (tag, number)));
+        }
+        if let Verdict::Refused(Fault::Clash { link, .. }) = verdict {
+            let who = format!("  link {link}: the ");
+            by_a_reply += usize::from(behind(&lines)[1].starts_with(&who));
         }
     }
     assert!(seen.iter().all(|&count| count > 0), "{seen:?}");
-    assert!(
-        [2, 4, 5, 6].iter().all(|number| of_times.contains(number)),
-        "{of_times:?}"
-    );
+    for (tag, numbers) in [(6, &[2, 4, 5, 6][..]), (7, &[2, 5, 6, 7, 8, 10, 11])] {
+        let seen = |number: &u8| of_tags.contains(&(tag, *number));
+        assert!(numbers.iter().all(seen), "{tag}: {of_tags:?}");
+    }
+    assert!(!of_tags.contains(&(7, 9)), "{of_tags:?}");
+    assert!(by_a_reply > 0);
 }
 
 /// A star of 8 initiators and 16 further nodes, each initiator with a path to each of these, and one entry.

@@ -10,6 +10,7 @@ use desk::plan::Plan;
 use desk::sheet::{of_plan, with_times};
 use desk::times::{longest, never, spans};
 use spwd::{Latencies, Refusal, Spwd, LATENCY_MOST, LENGTH_MOST, READ, SLOT_LENGTH_MOST};
+use std::collections::BTreeSet;
 use std::fmt::Write;
 
 const TIMES: [&str; 7] = ["--times", "200", "5000", "5000", "5000", "5000", "30000"];
@@ -37,6 +38,27 @@ fn term_by_term() {
     let ran = by_itself("7", "3", &["0", "1", "64", "1024", "4096"]);
     assert_eq!(ran.text(), expected("sheet/five-lengths.txt"));
     assert_eq!((ran.err.as_str(), ran.status), ("", 0));
+}
+
+/// Of a reply with a way of its own, and one with as many routers as the command.
+#[test]
+fn two_ways() {
+    let alone = |reply: &str, lengths: &[&str]| {
+        by_itself("1", "200", &[&["--reply-routers", reply], lengths].concat())
+    };
+    let ran = alone("5", &["256", "0"]);
+    assert_eq!(ran.text(), expected("sheet/two-ways.txt"));
+    assert_eq!((ran.err.as_str(), ran.status), ("", 0));
+    assert_eq!(alone("1", &["256"]), by_itself("1", "200", &["256"]));
+    let refused = "refused 6: a number is out of range\n";
+    let back = "    routers back 8 is out of range: right is 0 to 7\n";
+    let ran = alone("8", &["256"]);
+    assert_eq!(ran.text(), format!("{refused}{back}"));
+    assert_eq!((ran.err.as_str(), ran.status), ("", 2));
+    let ran = by_itself("255", "200", &["--reply-routers", "8", "256"]);
+    let out = "    routers out 255 is out of range: right is 0 to 7\n";
+    assert_eq!(ran.text(), format!("{refused}{out}{back}"));
+    assert_eq!((ran.err.as_str(), ran.status), ("", 2));
 }
 
 #[test]
@@ -84,6 +106,17 @@ fn plans_of_the_project() {
     prints(&given("plans/astro-h.plan"), "sheet/given-astro-h.txt", 0);
     prints(&given("plans/times.plan"), "sheet/given-times.txt", 0);
     prints(&given("plans/smallest.plan"), "sheet/given-smallest.txt", 0);
+    prints(&["plans/guide-reply.plan"], "sheet/guide-reply.txt", 0);
+    prints(
+        &given("plans/guide-reply.plan"),
+        "sheet/given-guide-reply.txt",
+        0,
+    );
+    prints(
+        &["rust/desk/tests/plans/replies.plan"],
+        "sheet/replies.txt",
+        0,
+    );
     let slow = "--times 2 5000 5000 5000 5000 1000000 plans/guide.plan";
     prints(&slow.split(' ').collect::<Vec<_>>(), "sheet/slow.txt", 0);
     let wrong = "--times 401 0 1000001 0 0 1000001 plans/times.plan";
@@ -227,8 +260,9 @@ fn field(of: &Times) -> Vec<u8> {
     times(&words).unwrap()
 }
 
-/// Initiator 0 with a target behind each number of routers from none to seven; one entry of this span has all eight.
-fn every_path(span: u8) -> Vec<u8> {
+/// Initiator 0 with a target behind each number of routers from none to seven; one entry of this span has all eight. Behind further routers
+/// 21 to 27 the replies come home: that of the first target through so many, each later one through one more, and none after seven.
+fn every_path(span: u8, home: Option<u8>) -> Vec<u8> {
     let mut text = String::from("node 0\n");
     (10..18).for_each(|target| writeln!(text, "node {target}").unwrap());
     (1..8).for_each(|router| writeln!(text, "router {router}").unwrap());
@@ -243,6 +277,31 @@ fn every_path(span: u8) -> Vec<u8> {
         "entry 0 0 {span} 10 11 12 13 14 15 16 17\nintervals 90 110"
     )
     .unwrap();
+    let file = compile(text.as_bytes()).unwrap().bytes;
+    home.map_or(file.clone(), |first| with_ways_home(&file, first))
+}
+
+/// The plan of `every_path` with these replies.
+fn with_ways_home(file: &[u8], first: u8) -> Vec<u8> {
+    let text = desk::text::text_of(file).join("\n");
+    let (devices, rest) = text.split_once("\nlink ").unwrap();
+    let (links, rest) = rest.split_once("\npath ").unwrap();
+    let mut text = format!("{devices}\n");
+    (21..28).for_each(|router| writeln!(text, "router {router}").unwrap());
+    writeln!(text, "link {links}\nlink 21 0 21").unwrap();
+    (22..28).for_each(|router| writeln!(text, "link {router} {} {router}", router - 1).unwrap());
+    let mut replies = String::new();
+    for target in 0..8 {
+        let routers = (first + target) % 8;
+        let last = if routers == 0 { 0 } else { 20 + routers };
+        writeln!(text, "link 3{target} {last} 1{target}").unwrap();
+        let chain: String = (1..=routers)
+            .rev()
+            .map(|router| format!(" 2{router}"))
+            .collect();
+        writeln!(replies, "reply 0 1{target} 3{target}{chain}").unwrap();
+    }
+    write!(text, "path {rest}\n{replies}").unwrap();
     compile(text.as_bytes()).unwrap().bytes
 }
 
@@ -255,15 +314,18 @@ fn permits(spwd: &Spwd, path: &Path, length: u16) -> bool {
     }
 }
 
-/// The largest lengths of the sheet are those of the box, for every number of routers and every span.
+/// The largest lengths of the sheet are those of the box, for every number of routers and every span, with replies on the links of the
+/// command and on ways of their own, through any number of routers.
 #[test]
 fn as_the_box_permits() {
     let mut chance = Chance(0x5eed_0005);
     let (mut none, mut some, mut all) = (0, 0, 0);
-    for round in 0..800 {
+    let mut ways = BTreeSet::new();
+    for round in 0..1_600 {
         let span = 1 + (round % 16) as u8;
         let of = by_chance(&mut chance);
-        let file = with_times(&every_path(span), &field(&of));
+        let home = (round % 2 == 1).then(|| chance.below(8) as u8);
+        let file = with_times(&every_path(span, home), &field(&of));
         let mut spwd = Spwd::new();
         spwd.load(&file).unwrap();
         let plan = Plan::of(&file);
@@ -274,7 +336,9 @@ fn as_the_box_permits() {
         );
         let never: Vec<_> = never(&plan).iter().map(|never| never.target).collect();
         for path in &plan.paths {
-            let largest = times.largest(path, span);
+            let routers = plan.routers(path);
+            ways.insert((routers.command, routers.reply));
+            let largest = times.largest(routers, span);
             let more = largest.map_or(0, |length| length + 1);
             assert!(
                 largest.is_none_or(|length| permits(&spwd, path, length)),
@@ -290,6 +354,7 @@ fn as_the_box_permits() {
         }
     }
     assert!(none > 500 && some > 500 && all > 500, "{none} {some} {all}");
+    assert_eq!(ways.len(), 64, "{ways:?}");
 }
 
 /// With the slot length that is suggested every entry permits 256 bytes for each slot of its span, and with one ns less not every one.
@@ -309,8 +374,9 @@ fn the_least_slot_length() {
             let enough = |slot_length| {
                 let times = Times { slot_length, ..of };
                 let lengths = |path: &Path| {
-                    let enough =
-                        |span: u8| times.largest(path, span) >= Some(256 * u16::from(span));
+                    let enough = |span: u8| {
+                        times.largest(plan.routers(path), span) >= Some(256 * u16::from(span))
+                    };
                     spans(&plan, path).into_iter().all(enough)
                 };
                 plan.paths.iter().all(lengths)

@@ -37,6 +37,10 @@ fn plans_of_the_project() {
         "no-entry-times",
         "times",
         "times-never",
+        "guide-reply",
+        "reply-clash",
+        "reply-without-path",
+        "reply-from-initiator",
     ] {
         shows(&format!("plans/{name}.plan"), &format!("show/{name}.txt"));
     }
@@ -70,10 +74,61 @@ fn never_permitted() {
     }
 }
 
+/// Initiators 0 and 1 on router 50, each with sixteen targets on router 51, to which its commands go over link 50. The replies to 0 come home
+/// over link 51.
+fn two_fans() -> String {
+    let mut text = String::new();
+    (0..34).for_each(|node| text += &format!("node {node}\n"));
+    text += "router 50\nrouter 51\nlink 50 50 51\nlink 51 50 51\n";
+    (0..2).for_each(|node| text += &format!("link {node} {node} 50\n"));
+    (2..34).for_each(|node| text += &format!("link {node} {node} 51\n"));
+    let targets = |initiator: u8| 2 + 16 * initiator..18 + 16 * initiator;
+    for initiator in 0..2 {
+        for target in targets(initiator) {
+            text += &format!("path {initiator} {target} {initiator} 50 {target}\n");
+        }
+    }
+    for initiator in 0..2 {
+        let targets: Vec<_> = targets(initiator)
+            .map(|target| target.to_string())
+            .collect();
+        text += &format!("entry {initiator} 0 1 {}\n", targets.join(" "));
+    }
+    text += "intervals 90 110\n";
+    targets(0).for_each(|target| text += &format!("reply 0 {target} {target} 51 0\n"));
+    text
+}
+
+/// Who meets on a link is wrapped.
+#[test]
+fn many_ways_over_a_link() {
+    let ran = run(SHOW, &["--text"], two_fans().as_bytes());
+    let page = ran.text();
+    assert!(page.starts_with("REFUSED 14 0 0 1 50\n"), "{page}");
+    let (_, who) = page.split_once("using it\n  link 50: ").unwrap();
+    let (who, _) = who.split_once("\n  entry of initiator 0").unwrap();
+    assert!(who.lines().all(|line| line.len() <= 80), "{who}");
+    let words: Vec<_> = who.split_ascii_whitespace().collect();
+    let commands = (2..18).map(|target| format!("the command of 0 to {target}, "));
+    let both = (18..34).map(|target| format!("the command and the reply of 1 to {target}, "));
+    let all: String = commands.chain(both).collect();
+    assert_eq!(format!("{}, ", words.join(" ")), all);
+    assert_eq!(page.matches(", command: 0 -0- 50 =50= 51 ").count(), 16);
+    assert_eq!(page.matches(": 1 -1- 50 =50= 51 ").count(), 16);
+    assert!(!page.contains(", reply: "), "{page}");
+}
+
 /// From a plan file the page is that from the text, but for the lines of the text.
 #[test]
 fn from_bytes() {
-    for name in ["sample-first", "sample-over-63", "juice"] {
+    for name in [
+        "sample-first",
+        "sample-over-63",
+        "juice",
+        "guide-reply",
+        "reply-clash",
+        "reply-from-initiator",
+    ] {
         let plan = format!("plans/{name}.plan");
         let ran = run(SHOW, &[], &bytes(&plan));
         let page = expected(&format!("show/{name}.txt"));

@@ -2,7 +2,7 @@
 
 use crate::bits::{bit, holds, Members};
 use crate::few;
-use crate::plan::{Plan, Shape, Times, Walk, Way, INITIATORS, NUMBERS, SLOTS, SPANS};
+use crate::plan::{Plan, Routers, Shape, Times, Walk, Way, INITIATORS, NUMBERS, SLOTS, SPANS};
 use crate::sheet::{in_range, Latencies};
 use crate::verdict::{Fault, Verdict};
 
@@ -14,7 +14,7 @@ pub(crate) fn load(plan: &mut Plan, file: &[u8]) -> Verdict {
     let mut judge = Judge {
         plan,
         path_count: 0,
-        path_links: [[0; NUMBERS]; INITIATORS],
+        used_links: [[0; NUMBERS]; INITIATORS],
         permitted: [[0; SPANS]; INITIATORS],
         followed: [0; INITIATORS],
         slot_links: [0; SLOTS],
@@ -71,11 +71,22 @@ fn each_field(
     Ok(bytes)
 }
 
+/// The initiator, target and links of a path or a reply.
+#[inline(always)]
+fn pair_and_links(content: &[u8]) -> Result<(u8, u8, &[u8]), Fault> {
+    match *content {
+        [initiator, target, ref links @ ..] if (1..=8).contains(&links.len()) => {
+            Ok((initiator, target, links))
+        }
+        _ => Err(Fault::Length),
+    }
+}
+
 /// The fault of a first field that was not taken when the fields of its tag were.
 fn misplaced(bytes: &[u8]) -> Fault {
     match first_field(bytes) {
         None => Fault::Cut,
-        Some((1..=6, ..)) => Fault::TagOrder,
+        Some((1..=7, ..)) => Fault::TagOrder,
         Some(_) => Fault::UnknownTag,
     }
 }
@@ -83,8 +94,9 @@ fn misplaced(bytes: &[u8]) -> Fault {
 struct Judge<'a> {
     plan: &'a mut Plan,
     path_count: u8,
-    /// For each row and target the links of the path.
-    path_links: [[u64; NUMBERS]; INITIATORS],
+    /// For each row and target the links that a transaction uses: the path's, and those of its reply
+    /// as soon as that is read.
+    used_links: [[u64; NUMBERS]; INITIATORS],
     /// For each row, at n - 1, the targets of its entries with span n.
     permitted: [[u64; SPANS]; INITIATORS],
     /// For each row the slots its entries cover after their own.
@@ -102,6 +114,9 @@ impl Judge<'_> {
         }
         self.fields(file).map_err(|refused| refused.verdict(file))?;
         self.overlap()?;
+        if self.has_reply() {
+            self.use_links_again();
+        }
         self.clash()
     }
 
@@ -112,6 +127,7 @@ impl Judge<'_> {
         let rest = self.entries(rest)?;
         let rest = each_field(rest, 5, |content| self.intervals(content))?;
         let rest = each_field(rest, 6, |content| self.times(content))?;
+        let rest = self.replies(rest)?;
         if !rest.is_empty() {
             return Err(Refused::at(rest, misplaced(rest)));
         }
@@ -134,6 +150,11 @@ impl Judge<'_> {
         each_field(bytes, 4, |content| self.entry(content))
     }
 
+    #[inline(never)]
+    fn replies<'b>(&mut self, bytes: &'b [u8]) -> Result<&'b [u8], Refused> {
+        each_field(bytes, 7, |content| self.reply(content))
+    }
+
     #[inline(always)]
     fn nodes(&self) -> u64 {
         self.plan.devices & !self.plan.routers
@@ -145,6 +166,10 @@ impl Judge<'_> {
 
     fn has_entry(&self) -> bool {
         self.plan.slots != [0; INITIATORS]
+    }
+
+    fn has_reply(&self) -> bool {
+        self.plan.replied != [0; INITIATORS]
     }
 
     #[inline(always)]
@@ -185,12 +210,7 @@ impl Judge<'_> {
 
     #[inline(always)]
     fn path(&mut self, content: &[u8]) -> Result<(), Fault> {
-        let &[initiator, target, ref links @ ..] = content else {
-            return Err(Fault::Length);
-        };
-        if !(1..=8).contains(&links.len()) {
-            return Err(Fault::Length);
-        }
+        let (initiator, target, links) = pair_and_links(content)?;
         let trace = Trace::new(initiator, links, &self.plan.ends);
         if (initiator | target | trace.numbers) > 63 || initiator == target {
             return Err(Fault::Range);
@@ -199,10 +219,7 @@ impl Judge<'_> {
         if row.is_some_and(|row| holds(self.plan.reached[row], target)) {
             return Err(Fault::GivenBefore);
         }
-        let ends = bit(initiator) | bit(target);
-        if ends & !self.nodes() != 0 || trace.links & !self.plan.links != 0 {
-            return Err(Fault::NotGiven);
-        }
+        self.all_given(initiator, target, &trace)?;
         let initiators = usize::from(self.plan.initiator_count);
         if self.path_count == PATHS || row.is_none() && initiators == INITIATORS {
             return Err(Fault::TooMany);
@@ -213,9 +230,48 @@ impl Judge<'_> {
         let row = row.unwrap_or_else(|| self.add_initiator(initiator));
         self.plan.reached[row] |= bit(target);
         self.plan.walks[row][usize::from(target % 64)] = trace.walk;
-        self.plan.ways[row][usize::from(target % 64)] = Way::new(0, links.len() as u8 - 1);
-        self.path_links[row][usize::from(target % 64)] = trace.links;
+        // Without a reply of its own the answer goes back over the same links.
+        let routers = links.len() as u8 - 1;
+        self.plan.ways[row][usize::from(target % 64)] = Way::new(0, Routers::new(routers, routers));
+        self.used_links[row][usize::from(target % 64)] = trace.links;
         self.path_count += 1;
+        Ok(())
+    }
+
+    /// A reply, whose links lead from the target back to the initiator.
+    #[inline(always)]
+    fn reply(&mut self, content: &[u8]) -> Result<(), Fault> {
+        let (initiator, target, links) = pair_and_links(content)?;
+        let trace = Trace::new(target, links, &self.plan.ends);
+        if (initiator | target | trace.numbers) > 63 || initiator == target {
+            return Err(Fault::Range);
+        }
+        let row = self.plan.row(initiator);
+        if row.is_some_and(|row| holds(self.plan.replied[row], target)) {
+            return Err(Fault::GivenBefore);
+        }
+        self.all_given(initiator, target, &trace)?;
+        if !trace.is_walk(target, initiator, self.plan.routers) {
+            return Err(Fault::NoWalk);
+        }
+        let with_path = |&row: &usize| holds(self.plan.reached[row], target);
+        let row = row.filter(with_path).ok_or(Fault::NoPath)?;
+        self.plan.replied[row] |= bit(target);
+        self.plan.replies[row][usize::from(target % 64)] = trace.walk;
+        let way = &mut self.plan.ways[row][usize::from(target % 64)];
+        let command_routers = way.routers().command();
+        *way = Way::new(0, Routers::new(command_routers, links.len() as u8 - 1));
+        self.used_links[row][usize::from(target % 64)] |= trace.links;
+        Ok(())
+    }
+
+    /// Verdict 8 on a path or a reply.
+    #[inline(always)]
+    fn all_given(&self, initiator: u8, target: u8, trace: &Trace) -> Result<(), Fault> {
+        let ends = bit(initiator) | bit(target);
+        if ends & !self.nodes() != 0 || trace.links & !self.plan.links != 0 {
+            return Err(Fault::NotGiven);
+        }
         Ok(())
     }
 
@@ -232,7 +288,7 @@ impl Judge<'_> {
         plan.reached[row..=count].rotate_right(1);
         plan.walks[row..=count].rotate_right(1);
         plan.ways[row..=count].rotate_right(1);
-        self.path_links[row..=count].rotate_right(1);
+        self.used_links[row..=count].rotate_right(1);
         plan.initiators[row] = initiator;
         plan.initiator_count += 1;
         for (rank, &device) in (1..).zip(&plan.initiators[..=count]) {
@@ -250,7 +306,7 @@ impl Judge<'_> {
             return Err(Fault::Length);
         }
         let row = self.plan.row(initiator);
-        let targets = Targets::new(targets, &self.path_links[row.unwrap_or(0)]);
+        let targets = Targets::new(targets, &self.used_links[row.unwrap_or(0)]);
         if (initiator | slot | targets.numbers) > 63 || !(1..=16).contains(&span) {
             return Err(Fault::Range);
         }
@@ -290,9 +346,15 @@ impl Judge<'_> {
         plan.shapes[index][row] = Shape { span, count };
         self.permitted[row][usize::from(span - 1) % SPANS] |= targets.set;
         self.followed[row] |= followed(slot, span);
-        self.use_links(slot, targets.links);
+        self.cover(slot, span, targets.links);
+    }
+
+    /// An entry of this span, standing here, uses these links.
+    #[inline(always)]
+    fn cover(&mut self, slot: u8, span: u8, links: u64) {
+        self.use_links(slot, links);
         for later in slot + 1..slot + span {
-            self.use_links(later, targets.links);
+            self.use_links(later, links);
         }
     }
 
@@ -301,6 +363,28 @@ impl Judge<'_> {
         let used = &mut self.slot_links[usize::from(slot % 64)];
         self.clashing |= u64::from(*used & links != 0) << (slot % 64);
         *used |= links;
+    }
+
+    /// What the slots use with all replies, none of which was read before the entries.
+    #[inline(never)]
+    fn use_links_again(&mut self) {
+        self.slot_links = [0; SLOTS];
+        self.clashing = 0;
+        for row in 0..INITIATORS.min(self.plan.initiator_count.into()) {
+            for slot in Members(self.plan.slots[row]) {
+                let Shape { span, .. } = self.plan.shapes[usize::from(slot)][row];
+                self.cover(slot, span, self.entry_links(row, slot));
+            }
+        }
+    }
+
+    /// The links used by the row's entry that stands at this slot.
+    #[inline(always)]
+    fn entry_links(&self, row: usize, slot: u8) -> u64 {
+        let targets = Members(self.plan.targets[usize::from(slot % 64)][row]);
+        targets.fold(0, |links, target| {
+            links | self.used_links[row][usize::from(target)]
+        })
     }
 
     fn intervals(&mut self, content: &[u8]) -> Result<(), Fault> {
@@ -390,13 +474,9 @@ impl Judge<'_> {
     /// The links used by the row's entry that covers this slot.
     fn links_in(&self, row: usize, slot: u8) -> u64 {
         (0..16u8)
-            .map(|back| (back, usize::from(slot.wrapping_sub(back) % 64)))
-            .find(|&(back, stand)| self.plan.shapes[stand][row].span > back)
-            .map_or(0, |(_, stand)| {
-                Members(self.plan.targets[stand][row]).fold(0, |links, target| {
-                    links | self.path_links[row][usize::from(target)]
-                })
-            })
+            .map(|back| (back, slot.wrapping_sub(back) % 64))
+            .find(|&(back, stand)| self.plan.shapes[usize::from(stand)][row].span > back)
+            .map_or(0, |(_, stand)| self.entry_links(row, stand))
     }
 
     fn accept(&mut self, file: &[u8]) -> Verdict {
@@ -430,7 +510,7 @@ fn followed(slot: u8, span: u8) -> u64 {
     ((1u64 << count) - 1).rotate_left(u32::from(slot) + 1)
 }
 
-/// Where the links of a path lead, whatever they are.
+/// Where the links of a path or a reply lead, whatever they are.
 struct Trace {
     /// All link numbers, joined bit by bit.
     numbers: u8,
@@ -445,13 +525,13 @@ struct Trace {
 
 impl Trace {
     #[inline(always)]
-    fn new(initiator: u8, links: &[u8], ends: &[u64; NUMBERS]) -> Self {
+    fn new(from: u8, links: &[u8], ends: &[u64; NUMBERS]) -> Self {
         let mut trace = Self {
             numbers: 0,
             links: 0,
             walk: Walk::START,
-            here: bit(initiator),
-            met: bit(initiator),
+            here: bit(from),
+            met: bit(from),
             broken: 0,
         };
         for &link in links {
@@ -473,9 +553,9 @@ impl Trace {
     }
 
     #[inline(always)]
-    fn is_walk(&self, initiator: u8, target: u8, routers: u64) -> bool {
-        let between = self.met & !bit(initiator) & !bit(target);
-        self.broken == 0 && self.here == bit(target) && between & !routers == 0
+    fn is_walk(&self, from: u8, to: u8, routers: u64) -> bool {
+        let between = self.met & !bit(from) & !bit(to);
+        self.broken == 0 && self.here == bit(to) && between & !routers == 0
     }
 }
 

@@ -1,5 +1,6 @@
 //! The plan's tables. An initiator has a row in them; rows rise with the device number.
 
+use crate::bits::{bit, Members};
 use crate::sheet::{Latencies, Sheet, BYTE, LENGTH, ROUTERS};
 
 pub(crate) const INITIATORS: usize = 8;
@@ -31,23 +32,29 @@ pub(crate) struct Plan {
     pub reached: [u64; INITIATORS],
     /// For each row and target the links of the path.
     pub walks: [[Walk; NUMBERS]; INITIATORS],
+    /// For each row the targets whose replies have a way of their own.
+    pub replied: [u64; INITIATORS],
+    /// For each row and target the links of that way, from the target back.
+    pub replies: [[Walk; NUMBERS]; INITIATORS],
     /// For each row the slots at which an entry stands.
     pub slots: [u64; INITIATORS],
     /// For each slot and row the targets of the entry standing there.
     pub targets: [[u64; INITIATORS]; SLOTS],
     /// And its span with the number of its targets.
     pub shapes: [[Shape; INITIATORS]; SLOTS],
-    /// For each span, at n - 1, and number of routers, if an entry has a target so far away, how many
-    /// lengths fit, from 0 up.
+    /// The spans, as n - 1, of all entries.
+    pub spans: u64,
+    /// For each span, at n - 1, and routers of both ways, if an entry has a target so far away, how
+    /// many lengths fit, from 0 up.
     pub lengths: [Lengths; SPANS],
     /// For each row and target what a request reads.
     pub ways: [[Way; NUMBERS]; INITIATORS],
 }
 
-/// How many lengths fit, for each number of routers.
-pub(crate) type Lengths = [u16; ROUTERS as usize + 1];
+/// How many lengths fit, by the routers of both ways.
+pub(crate) type Lengths = [u16; Routers::ALL];
 
-const NO_LENGTHS: Lengths = [0; ROUTERS as usize + 1];
+const NO_LENGTHS: Lengths = [0; Routers::ALL];
 
 impl Plan {
     pub const fn new() -> Self {
@@ -66,9 +73,12 @@ impl Plan {
             ranks: [0; NUMBERS],
             reached: [0; INITIATORS],
             walks: [[Walk(0); NUMBERS]; INITIATORS],
+            replied: [0; INITIATORS],
+            replies: [[Walk(0); NUMBERS]; INITIATORS],
             slots: [0; INITIATORS],
             targets: [[0; INITIATORS]; SLOTS],
             shapes: [[Shape::NONE; INITIATORS]; SLOTS],
+            spans: 0,
             lengths: [NO_LENGTHS; SPANS],
             ways: [[Way::NONE; NUMBERS]; INITIATORS],
         }
@@ -91,9 +101,12 @@ impl Plan {
             ranks,
             reached,
             walks,
+            replied,
+            replies,
             slots,
             targets,
             shapes,
+            spans,
             lengths,
             ways,
         } = self;
@@ -111,10 +124,17 @@ impl Plan {
         *ranks = [0; NUMBERS];
         *reached = [0; INITIATORS];
         *walks = [[Walk(0); NUMBERS]; INITIATORS];
+        // A table of replies without one is all 0.
+        if *replied != [0; INITIATORS] {
+            *replied = [0; INITIATORS];
+            *replies = [[Walk(0); NUMBERS]; INITIATORS];
+        }
         *slots = [0; INITIATORS];
         *targets = [[0; INITIATORS]; SLOTS];
         *shapes = [[Shape::NONE; INITIATORS]; SLOTS];
-        *lengths = [NO_LENGTHS; SPANS];
+        // The lengths of a span without entries are all 0.
+        Members(*spans).for_each(|span| lengths[usize::from(span) % SPANS] = NO_LENGTHS);
+        *spans = 0;
         *ways = [[Way::NONE; NUMBERS]; INITIATORS];
     }
 
@@ -136,9 +156,10 @@ impl Plan {
     /// Notes for requests and starts that this row has an entry with this target and span. The spans
     /// of a row rise from call to call.
     pub fn permit(&mut self, row: usize, target: u8, span: u8) {
+        self.spans |= bit(span - 1);
         let way = &mut self.ways[row][usize::from(target % 64)];
         let routers = way.routers();
-        let lengths = &mut self.lengths[usize::from(span - 1) % SPANS][usize::from(routers)];
+        let lengths = &mut self.lengths[usize::from(span - 1) % SPANS][routers.index()];
         if *lengths == 0 {
             *lengths = match self.times {
                 None => SLOT_BYTES * u16::from(span) + 1,
@@ -171,9 +192,10 @@ pub(crate) struct Times {
 }
 
 impl Times {
-    /// How many lengths, from 0 up, have a time that fits the span on a path with these routers.
-    pub fn lengths(&self, routers: u8, span: u8) -> u16 {
-        let Sheet { total, e, .. } = Sheet::new(routers, routers, self.rate, 0, self.latencies);
+    /// How many lengths, from 0 up, have a time that fits the span with these routers.
+    pub fn lengths(&self, routers: Routers, span: u8) -> u16 {
+        let (command, reply) = (routers.command(), routers.reply());
+        let Sheet { total, e, .. } = Sheet::new(command, reply, self.rate, 0, self.latencies);
         let given = u32::from(span) * self.slot_length;
         let left = u64::from(given.saturating_sub(total - e));
         // A quotient rounded up is at most `left` exactly where its dividend is at most `left` times
@@ -183,27 +205,55 @@ impl Times {
     }
 }
 
-/// Of one path: how many lengths, from 0 up, some entry permits, at most 4,097, above three bits for its
+/// The routers on the way of a command, at most seven, above three bits for those on the reply's.
+#[derive(Clone, Copy, Debug, PartialEq, Eq)]
+pub(crate) struct Routers(u8);
+
+impl Routers {
+    pub const ALL: usize = 1 << Self::BITS;
+    pub const BITS: u32 = 6;
+    const REPLY_BITS: u32 = 3;
+
+    #[inline(always)]
+    pub fn new(command: u8, reply: u8) -> Self {
+        Self(command << Self::REPLY_BITS | reply)
+    }
+
+    pub fn command(self) -> u8 {
+        self.0 >> Self::REPLY_BITS
+    }
+
+    pub fn reply(self) -> u8 {
+        self.0 & ROUTERS
+    }
+
+    #[inline(always)]
+    pub fn index(self) -> usize {
+        usize::from(self.0) % Self::ALL
+    }
+}
+
+/// Of one path: how many lengths, from 0 up, some entry permits, at most 4,097, above the bits of its
 /// routers.
 #[derive(Clone, Copy, Debug, PartialEq, Eq)]
-pub(crate) struct Way(u16);
+pub(crate) struct Way(u32);
 
 impl Way {
     const NONE: Self = Self(0);
-    const BITS: u32 = 3;
 
-    pub fn new(lengths: u16, routers: u8) -> Self {
-        Self(lengths << Self::BITS | u16::from(routers))
+    #[inline(always)]
+    pub fn new(lengths: u16, routers: Routers) -> Self {
+        Self(u32::from(lengths) << Routers::BITS | u32::from(routers.0))
     }
 
     #[inline(always)]
     pub fn lengths(self) -> u16 {
-        self.0 >> Self::BITS
+        (self.0 >> Routers::BITS) as u16
     }
 
     #[inline(always)]
-    pub fn routers(self) -> u8 {
-        self.0 as u8 & ROUTERS
+    pub fn routers(self) -> Routers {
+        Routers((self.0 % Routers::ALL as u32) as u8)
     }
 }
 

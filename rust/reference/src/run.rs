@@ -2,7 +2,7 @@
 
 use crate::bits::{bit, rows};
 use crate::event::{class, Answer, Refusal};
-use crate::plan::{Lengths, Plan, Shape, INITIATORS};
+use crate::plan::{Lengths, Plan, Routers, Shape, INITIATORS};
 use crate::sheet::LENGTH;
 
 pub(crate) const EARLY: u8 = 1;
@@ -39,18 +39,18 @@ impl Transaction {
     }
 }
 
-/// A request as the number of its transaction, with the routers of its path in the three bits on top.
+/// A request as the number of its transaction, with the routers of its ways in the bits on top.
 #[derive(Clone, Copy, Debug, PartialEq, Eq)]
 struct Request(u64);
 
 impl Request {
     const NONE: Self = Self(0);
-    const ROUTERS: u32 = 61;
+    const ROUTERS: u32 = u64::BITS - Routers::BITS;
 
     #[inline(always)]
-    fn new(initiator: u8, target: u8, routers: u8, number: u16, length: u16) -> Self {
+    fn new(initiator: u8, target: u8, routers: Routers, number: u16, length: u16) -> Self {
         Self(
-            u64::from(routers) << Self::ROUTERS
+            (routers.index() as u64) << Self::ROUTERS
                 | u64::from(initiator) << 48
                 | u64::from(target) << 40
                 | u64::from(number) << 16
@@ -138,7 +138,7 @@ impl Line {
 
     /// Adds a request and gives its transaction number; none if the line is full.
     #[inline(always)]
-    fn join(&mut self, initiator: u8, target: u8, routers: u8, length: u16) -> Option<u16> {
+    fn join(&mut self, initiator: u8, target: u8, routers: Routers, length: u16) -> Option<u16> {
         if self.count == WAITING {
             return None;
         }

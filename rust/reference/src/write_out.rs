@@ -2,7 +2,7 @@
 
 use crate::bits::{holds, Members};
 use crate::few;
-use crate::plan::{Plan, Shape, Times};
+use crate::plan::{Plan, Shape, Times, Walk, NUMBERS};
 use crate::sheet::Latencies;
 use core::mem::take;
 
@@ -19,7 +19,8 @@ pub(crate) fn write_out(plan: &Plan, out: &mut [u8]) {
         writer.bytes([2, 0, 3, link, smaller, greater]);
     }
     for (row, &initiator) in plan.initiators().iter().enumerate() {
-        write_paths(plan, row, initiator, &mut writer);
+        let (targets, walks) = (plan.reached[row], &plan.walks[row]);
+        write_walks(3, initiator, targets, walks, &mut writer);
     }
     for (row, &initiator) in plan.initiators().iter().enumerate() {
         write_entries(plan, row, initiator, &mut writer);
@@ -30,14 +31,19 @@ pub(crate) fn write_out(plan: &Plan, out: &mut [u8]) {
     if let Some(times) = plan.times {
         write_times(times, &mut writer);
     }
+    for (row, &initiator) in plan.initiators().iter().enumerate() {
+        let (targets, walks) = (plan.replied[row], &plan.replies[row]);
+        write_walks(7, initiator, targets, walks, &mut writer);
+    }
 }
 
+/// The paths or replies of an initiator with these targets.
 #[inline(always)]
-fn write_paths(plan: &Plan, row: usize, initiator: u8, writer: &mut Writer) {
-    for target in Members(plan.reached[row]) {
-        let walk = plan.walks[row][usize::from(target)];
+fn write_walks(tag: u8, initiator: u8, targets: u64, walks: &[Walk; NUMBERS], writer: &mut Writer) {
+    for target in Members(targets) {
+        let walk = walks[usize::from(target)];
         let count = walk.len();
-        writer.bytes([3, 0, 2 + count, initiator, target]);
+        writer.bytes([tag, 0, 2 + count, initiator, target]);
         writer.numbers(count, walk.links());
     }
 }

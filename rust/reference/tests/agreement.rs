@@ -4,10 +4,11 @@ mod common;
 
 use common::model::{judged, time, Model, ModelPlan};
 use common::{
-    device, entry, field, intervals, line, link, path, row_plan, split, times, Driver, Random,
+    all_ways, device, entry, field, intervals, line, link, path, reply, row_plan, split, times,
+    way, way_back, Driver, Random,
 };
 use reference::{Answer, Event, Refusal, Unit, Watchdog};
-use std::collections::BTreeSet;
+use std::collections::{BTreeMap, BTreeSet};
 
 /// More of them with the environment variable `CASES`, from another start with `START`.
 fn cases() -> u64 {
@@ -23,26 +24,68 @@ fn box_and_model_agree() {
     let mut random = Random(number("START").unwrap_or(0x1234_5678_9abc));
     let mut driver = Driver::cleared();
     let mut model = Model::new();
-    let mut seen = [0; 16];
-    let mut by_time = 0;
+    let mut seen = Seen::default();
     for _ in 0..cases() {
         let mut file = plan(&mut random);
         while random.chance(45) {
             file = spoilt(&file, &mut random);
         }
         let number = load(&mut driver, &mut model, &file);
-        seen[usize::from(number)] += 1;
+        seen.verdict(&file);
         if number == 0 {
             check_written_out(&driver, &model);
         }
         let events = if number == 0 { 300 } else { 3 };
         for _ in 0..events {
-            by_time += u64::from(step(&mut driver, &mut model, &mut random));
+            seen.by_time += u64::from(step(&mut driver, &mut model, &mut random));
         }
     }
-    assert!(by_time > 0, "no request was refused for its time");
-    let missing: Vec<usize> = (0..16).filter(|&number| seen[number] == 0).collect();
-    assert!(missing.is_empty(), "no verdict {missing:?} in {seen:?}");
+    seen.check();
+}
+
+/// What was reached.
+#[derive(Default)]
+struct Seen {
+    verdicts: BTreeSet<u8>,
+    /// Those on a reply.
+    on_replies: BTreeSet<u8>,
+    /// Clashes in plans that without their replies have none.
+    by_reply: u64,
+    /// Accepted with replies: without times, with times.
+    accepted: [u64; 2],
+    /// Requests refused for their time.
+    by_time: u64,
+}
+
+impl Seen {
+    fn verdict(&mut self, file: &[u8]) {
+        let judged = ModelPlan::judge(file);
+        let number = judged.as_ref().map_or_else(|judged| judged.0, |_| 0);
+        self.verdicts.insert(number);
+        match judged {
+            Err((2..=11, place)) if file[place[0] as usize] == 7 => {
+                self.on_replies.insert(number);
+            }
+            Err((14, _)) => {
+                let mut fields = split(file);
+                fields.retain(|field| field[0] != 7);
+                self.by_reply += u64::from(ModelPlan::judge(&fields.concat()).is_ok());
+            }
+            Ok(plan) if !plan.replies.is_empty() => {
+                self.accepted[usize::from(plan.times.is_some())] += 1;
+            }
+            _ => {}
+        }
+    }
+
+    fn check(&self) {
+        assert_eq!(self.verdicts, (0..16).collect());
+        assert_eq!(self.on_replies, BTreeSet::from([2, 5, 6, 7, 8, 10, 11]));
+        assert!(self.by_time > 0, "no request was refused for its time");
+        assert!(self.by_reply > 0, "no reply made a clash");
+        let [plain, timed] = self.accepted;
+        assert!(plain > 0 && timed > 0, "no plan with replies was accepted");
+    }
 }
 
 /// Loads both and gives the verdict's number.
@@ -87,6 +130,7 @@ fn step(driver: &mut Driver, model: &mut Model, random: &mut Random) -> bool {
     bytes.resize(buffer, 0xa5);
     assert_eq!(records, bytes, "{event:?}");
     assert_eq!(driver.watchdog, model.watchdog);
+    assert!(!model.live_ones_share_a_link(), "{event:?}");
     answer == Answer::Refused(Refusal::NotPermitted) && for_its_time(model, event)
 }
 
@@ -131,7 +175,7 @@ fn event(model: &Model, random: &mut Random) -> Event {
             Event::TimeCode { byte, clock }
         }
         4..8 => request(model, strange, random),
-        8 => reply(model, strange, random),
+        8 => answered(model, strange, random),
         _ => Event::Reading { clock },
     }
 }
@@ -202,7 +246,7 @@ fn longest(plan: &ModelPlan, initiator: u8, span: u8, target: u8) -> u16 {
     fits
 }
 
-fn reply(model: &Model, strange: bool, random: &mut Random) -> Event {
+fn answered(model: &Model, strange: bool, random: &mut Random) -> Event {
     let live = model.live();
     let (mut initiator, mut number) = (random.below(70) as u8, random.below(4) as u16);
     if !live.is_empty() {
@@ -236,14 +280,48 @@ fn plan(random: &mut Random) -> Vec<u8> {
             .map(|&(number, one, other)| link(number, one, other)),
     );
 
-    let initiators = &nodes[..nodes.len().min(1 + random.below(11))];
-    let mut found = Vec::new();
     let between = match random.below(20) {
         0 => &devices,
         _ => routers,
     };
+    let initiators = &nodes[..nodes.len().min(1 + random.below(11))];
+    let found = paths(initiators, routers, &links, between, random);
+    let ends = |met: &[u8]| (met[0], met[met.len() - 1]);
+    for (met, links) in &found {
+        let (initiator, target) = ends(met);
+        fields.push(path(initiator, target, links));
+    }
+    let pairs: Vec<(u8, u8)> = found.iter().map(|(met, _)| ends(met)).collect();
+    let mut replies = replies(&pairs, &links, between, random);
+    // Entries that do not know of the replies are such that only these may clash.
+    if random.chance(50) {
+        fields.append(&mut replies);
+    }
+    let careful = random.chance(90);
+    fields.push(five(random));
+    if !pairs.is_empty() {
+        add_entries(&mut fields, &pairs, careful, random);
+    }
+    fields.append(&mut replies);
+    if random.chance(50) {
+        fields.push(six(random));
+    }
+    random.shuffle(&mut fields);
+    fields.sort_by_key(|field| field[0]);
+    fields.concat()
+}
+
+/// Up to 128 walks, each of another pair; few of them end at a router.
+fn paths(
+    initiators: &[u8],
+    routers: &[u8],
+    links: &[(u8, u8, u8)],
+    between: &[u8],
+    random: &mut Random,
+) -> Vec<Walk> {
+    let mut found = Vec::new();
     for &initiator in initiators {
-        walks(&links, between, vec![initiator], vec![], &mut found);
+        walks(links, between, vec![initiator], vec![], &mut found);
     }
     if random.chance(95) {
         found.retain(|(met, _)| !routers.contains(&met[met.len() - 1]));
@@ -253,24 +331,37 @@ fn plan(random: &mut Random) -> Vec<u8> {
     found.dedup_by_key(|(met, _)| (met[0], met[met.len() - 1]));
     random.shuffle(&mut found);
     found.truncate(1 + random.below(128));
-    let ends = |met: &[u8]| (met[0], met[met.len() - 1]);
-    for (met, links) in &found {
-        let (initiator, target) = ends(met);
-        fields.push(path(initiator, target, links));
-    }
+    found
+}
 
-    let pairs: Vec<(u8, u8)> = found.iter().map(|(met, _)| ends(met)).collect();
-    let careful = random.chance(90);
-    fields.push(five(random));
-    if !pairs.is_empty() {
-        add_entries(&mut fields, &pairs, careful, random);
+/// Replies over any walk that leads back, for none, some or all of these pairs.
+fn replies(
+    pairs: &[(u8, u8)],
+    links: &[(u8, u8, u8)],
+    between: &[u8],
+    random: &mut Random,
+) -> Vec<Vec<u8>> {
+    let share = random.pick(&[0, 40, 100]);
+    let mut from: BTreeMap<u8, Vec<Walk>> = BTreeMap::new();
+    let mut replies = Vec::new();
+    for &(initiator, target) in pairs {
+        if !random.chance(share) {
+            continue;
+        }
+        let found = from.entry(target).or_insert_with(|| {
+            let mut found = Vec::new();
+            walks(links, between, vec![target], vec![], &mut found);
+            found
+        });
+        let back: Vec<&Walk> = found
+            .iter()
+            .filter(|(met, _)| met[met.len() - 1] == initiator)
+            .collect();
+        if !back.is_empty() {
+            replies.push(reply(initiator, target, &random.pick(&back).1));
+        }
     }
-    if random.chance(50) {
-        fields.push(six(random));
-    }
-    random.shuffle(&mut fields);
-    fields.sort_by_key(|field| field[0]);
-    fields.concat()
+    replies
 }
 
 fn five(random: &mut Random) -> Vec<u8> {
@@ -298,7 +389,8 @@ fn six(random: &mut Random) -> Vec<u8> {
         0 => random.pick(&[0, 1, top - 1, top]),
         1 => random.below(top as usize + 1) as u32,
         _ => {
-            let (routers, length) = (random.below(8) as u128, random.below(4_097) as u128);
+            let routers = (random.below(8) as u128, random.below(8) as u128);
+            let length = random.below(4_097) as u128;
             let time = time(routers, rate.into(), length, four.map(u128::from)) as u32;
             let enough = time.div_ceil(1 + random.below(3) as u32);
             (enough - random.below(2) as u32).min(top)
@@ -423,13 +515,13 @@ fn spoilt_fields(file: &[u8], random: &mut Random) -> Vec<u8> {
         return file.to_vec();
     }
     let mut fields = split(file);
-    let last = fields.len() - 1;
-    // Intervals and times stand alone at the end among many others.
-    let at = match random.below(4) {
-        0 => last,
-        _ => random.below(last + 1),
+    // Intervals and times stand alone among many others.
+    let alone = fields.iter().rposition(|field| [5, 6].contains(&field[0]));
+    let at = match (random.below(4), alone) {
+        (0, Some(place)) => place,
+        _ => random.below(fields.len()),
     };
-    match random.below(7) {
+    match random.below(12) {
         0 => {
             fields.remove(at);
         }
@@ -448,6 +540,7 @@ fn spoilt_fields(file: &[u8], random: &mut Random) -> Vec<u8> {
             fields[at] = field(fields[at][0], &longer);
         }
         4 => fields.retain(|field| field[0] != 4),
+        5..10 => fields.extend(spoilt_reply(&fields, random)),
         _ => {
             let index = 3 + random.below(fields[at].len() - 3);
             let other = random.below(fields.len());
@@ -458,6 +551,34 @@ fn spoilt_fields(file: &[u8], random: &mut Random) -> Vec<u8> {
     fields.concat()
 }
 
+/// A reply at the end, made of a path: with the path's links as they are, of the pair turned, or over
+/// the links back; perhaps with something changed or cut off.
+fn spoilt_reply(fields: &[Vec<u8>], random: &mut Random) -> Option<Vec<u8>> {
+    let paths: Vec<&Vec<u8>> = fields.iter().filter(|field| field[0] == 3).collect();
+    if paths.is_empty() {
+        return None;
+    }
+    let mut content = random.pick(&paths)[3..].to_vec();
+    match random.below(4) {
+        0 => {}
+        1 => content[2..].reverse(),
+        _ => content.swap(0, 1),
+    }
+    let index = random.below(content.len());
+    match random.below(8) {
+        0 => content[index] = random.pick(&[64, 128, 255]),
+        1 => content[index] = random.below(64) as u8,
+        2 => content[1] = content[0],
+        3 => content.resize(random.pick(&[0, 1, 2, 11, 12]), 0),
+        _ => {}
+    }
+    let mut reply = field(7, &content);
+    if random.chance(10) {
+        reply.truncate(1 + random.below(reply.len() - 1));
+    }
+    Some(reply)
+}
+
 #[test]
 fn lengths_that_fit_as_the_model_has_them() {
     let mut random = Random(number("START").unwrap_or(0xf175));
@@ -465,27 +586,45 @@ fn lengths_that_fit_as_the_model_has_them() {
         let span = 1 + random.below(16) as u8;
         let all: Vec<u8> = (1..9).collect();
         let file = row_plan(&[entry(0, 0, span, &all)], &six(&mut random));
-        let plan = ModelPlan::judge(&file).unwrap();
-        let mut driver = Driver::new(&file);
-        for target in all {
-            let most = longest(&plan, 0, span, target);
-            for length in [0, most.saturating_sub(1), most, most + 1] {
-                let request = Event::Request {
-                    initiator: 0,
-                    target,
-                    kind: 0,
-                    length,
-                };
-                let fits = plan.fits(0, span, target, length);
-                let before = driver.clone();
-                let answer = driver.step(request);
-                assert_eq!(answer.number() == 0, fits, "{span} {target} {length}");
-                // What is taken starts where the entry stands.
-                let started = driver.time_code(0, 0).len();
-                assert_eq!(started == 1, fits);
-                driver = before;
-            }
-        }
+        all.iter()
+            .for_each(|&target| check_lengths(&file, span, target));
+    }
+}
+
+#[test]
+fn lengths_that_fit_with_replies_as_the_model_has_them() {
+    let mut random = Random(number("START").unwrap_or(0xf175));
+    for _ in 0..cases() {
+        let span = 1 + random.below(16) as u8;
+        let (command, back) = (random.below(8) as u8, random.below(8) as u8);
+        let file = all_ways(&[
+            path(0, 1, &way(command)),
+            entry(0, 0, span, &[1]),
+            six(&mut random),
+            reply(0, 1, &way_back(back)),
+        ]);
+        check_lengths(&file, span, 1);
+    }
+}
+
+/// Around the longest that fits, from 0 to this target by an entry of this span at slot 0.
+fn check_lengths(file: &[u8], span: u8, target: u8) {
+    let plan = ModelPlan::judge(file).unwrap();
+    let most = longest(&plan, 0, span, target);
+    for length in [0, most.saturating_sub(1), most, most + 1] {
+        let request = Event::Request {
+            initiator: 0,
+            target,
+            kind: 0,
+            length,
+        };
+        let fits = plan.fits(0, span, target, length);
+        let mut driver = Driver::new(file);
+        let answer = driver.step(request);
+        assert_eq!(answer.number() == 0, fits, "{file:?} {target} {length}");
+        // What is taken starts where the entry stands.
+        let started = driver.time_code(0, 0).len();
+        assert_eq!(started == 1, fits);
     }
 }
 

@@ -2,7 +2,10 @@
 
 mod common;
 
-use common::{entry, first_plan, intervals, least_plan, plan_a, row_plan, usual_times, Driver};
+use common::{
+    entry, first_plan, intervals, least_plan, path, plan_a, reply, row_plan, two_ways, usual_times,
+    Driver,
+};
 use std::io::{BufRead, BufReader, Write};
 use std::process::{Command, Stdio};
 
@@ -158,6 +161,75 @@ fn sheets() {
 }
 
 #[test]
+fn sheets_with_two_ways() {
+    replay(&[
+        ("sheet2 4 4 200 256 5000 5000 5000 5000", "0 39450"),
+        ("sheet2 0 0 2 0 0 0 0 0", "0 125000"),
+        // Headers of 1 + 16 + 8 and of 5 + 16 + 4 bytes.
+        ("sheet2 1 5 100 1 1 20 300 4000", "0 11921"),
+        ("sheet2 5 1 100 1 1 20 300 4000", "0 11521"),
+        ("sheet2 0 7 2 0 0 0 0 0", "0 204200"),
+        ("sheet2 7 0 2 0 0 0 0 0", "0 164200"),
+        (
+            "sheet2 7 7 2 4096 1000000 1000000 1000000 1000000",
+            "0 24723400",
+        ),
+        ("sheet2 8 4 200 256 5000 5000 5000 5000", "6 0"),
+        ("sheet2 4 8 200 256 5000 5000 5000 5000", "6 0"),
+        ("sheet2 255 0 200 256 5000 5000 5000 5000", "6 0"),
+        ("sheet2 0 255 200 256 5000 5000 5000 5000", "6 0"),
+        ("sheet2 4 4 1 256 5000 5000 5000 5000", "6 0"),
+        ("sheet2 4 4 401 256 5000 5000 5000 5000", "6 0"),
+        ("sheet2 4 4 200 4097 5000 5000 5000 5000", "6 0"),
+        ("sheet2 4 4 200 256 1000001 5000 5000 5000", "6 0"),
+        ("sheet2 4 4 200 256 5000 1000001 5000 5000", "6 0"),
+        ("sheet2 4 4 200 256 5000 5000 1000001 5000", "6 0"),
+        ("sheet2 4 4 200 256 5000 5000 5000 1000001", "6 0"),
+    ]);
+}
+
+#[test]
+fn a_plan_with_replies() {
+    let entries = [path(1, 3, &[0, 2]), entry(1, 0, 1, &[3])];
+    let back = reply(1, 3, &[2, 4, 6, 21]);
+    let plan = |slot_length| {
+        let more = [usual_times(slot_length), back.clone()];
+        two_ways(&[&entries[..], &more].concat())
+    };
+    // One router there and three back: 24,000 ns beside the data and its CRC.
+    let load = format!("load {}", hex(&plan(24_100)));
+    let out = format!(
+        "0 {} {}",
+        plan(24_100).len(),
+        hex(&canonical(&plan(24_100)))
+    );
+    let wrong_way = two_ways(&[&entries[..], &[reply(1, 3, &[21, 6, 4, 2])]].concat());
+    let no_path = two_ways(&[&entries[..], &[reply(1, 4, &[24, 21])]].concat());
+    let place = two_ways(&entries).len();
+    replay(&[
+        (&load, "ACCEPTED 7 11 1 1"),
+        ("req 1 3 0 1", "0 0"),
+        ("req 1 3 0 2", "25 0"),
+        ("req 3 1 0 1", "22 0"),
+        ("tc 0 0 136", "0 1 0501030000000001"),
+        ("rep 1 0 0", "0 3 1 0 0"),
+        ("out 32768", &out),
+        (
+            &format!("load {}", hex(&wrong_way)),
+            &format!("REFUSED 10 {place}"),
+        ),
+        (
+            &format!("load {}", hex(&no_path)),
+            &format!("REFUSED 11 {place}"),
+        ),
+    ]);
+}
+
+fn canonical(file: &[u8]) -> Vec<u8> {
+    Driver::new(file).written_out()
+}
+
+#[test]
 fn a_plan_with_times() {
     let plan = |slot_length| row_plan(&[entry(0, 0, 1, &[4])], &usual_times(slot_length));
     let load = |slot_length| format!("load {}", hex(&plan(slot_length)));
@@ -234,7 +306,19 @@ fn what_is_no_command() {
         "sheet 4 200 256 5000 5000 4294967296 5000",
         "sheet 4 200 256 5000 5000 5000 4294967296",
         "sheet 4 200 256 5000 5000 5000 -1",
-        "sheet2 4 4 200 256 5000 5000 5000 5000",
+        "sheet2",
+        "sheet2 4 200 256 5000 5000 5000 5000",
+        "sheet2 4 4 200 256 5000 5000 5000",
+        "sheet2 4 4 200 256 5000 5000 5000 5000 5000",
+        "sheet2 4 4 200 256 5000 5000 5000 5000 ",
+        "sheet2 256 4 200 256 5000 5000 5000 5000",
+        "sheet2 4 256 200 256 5000 5000 5000 5000",
+        "sheet2 4 4 65536 256 5000 5000 5000 5000",
+        "sheet2 4 4 200 65536 5000 5000 5000 5000",
+        "sheet2 4 4 200 256 4294967296 5000 5000 5000",
+        "sheet2 4 4 200 256 5000 5000 5000 4294967296",
+        "sheet2 4 -1 200 256 5000 5000 5000 5000",
+        "sheet3 4 4 200 256 5000 5000 5000 5000",
         "clk 1\r",
         "clk\t1",
         " ",

@@ -166,7 +166,8 @@ fn refusal_25_by_one_nanosecond() {
         for rate in [2, 3, 7, 50, 200, 399, 400] {
             for length in [0, 1, 2, 255, 256, 257, 4_095, 4_096] {
                 let four = [5_000, 600, 70, 0];
-                let time = time(routers.into(), rate.into(), length.into(), four) as u32;
+                let both = (routers.into(), routers.into());
+                let time = time(both, rate.into(), length.into(), four) as u32;
                 for span in [1, 2, 3, 15, 16] {
                     let enough = time.div_ceil(span);
                     if enough > 1_000_000 {

@@ -134,14 +134,14 @@ fn the_longest_time() {
 fn sheet_and_model_agree() {
     let mut random = Random(0x7ea5);
     for _ in 0..20_000 {
-        let routers = random.below(8) as u8;
+        let (command, reply) = (random.below(8) as u8, random.below(8) as u8);
         let rate = 2 + random.below(399) as u16;
         let length = random.below(4_097) as u16;
         let four: [u32; 4] = std::array::from_fn(|_| random.below(1_000_001) as u32);
         let [a, d, f, g] = four;
-        let sheet = both_ways(routers, rate, length, Latencies { a, d, f, g }).unwrap();
+        let sheet = sheet(command, reply, rate, length, Latencies { a, d, f, g }).unwrap();
         let expected = time(
-            routers.into(),
+            (command.into(), reply.into()),
             rate.into(),
             length.into(),
             four.map(u128::from),

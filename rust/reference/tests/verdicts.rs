@@ -4,7 +4,7 @@ mod common;
 
 use common::{
     device, entry, field, first_plan, intervals, least_network, least_plan, link, path, plan_a,
-    plan_a_network, row_network, row_plan, split, times, usual_times, verdict,
+    plan_a_network, reply, row_network, row_plan, split, times, usual_times, verdict,
 };
 
 /// Devices 1 and 2 are nodes, 10 a router.
@@ -82,7 +82,7 @@ fn verdict_2_cut() {
 
 #[test]
 fn verdict_3_unknown_tag() {
-    for tag in [0, 7, 8, 255] {
+    for tag in [0, 8, 9, 255] {
         assert_fault(3, &[], &field(tag, &[]));
         assert_fault(3, &paths(), &field(tag, &[1, 2, 3]));
         let file = [first_plan(), field(tag, &[])].concat();
@@ -91,9 +91,11 @@ fn verdict_3_unknown_tag() {
         let file = [&timed[..], &field(tag, &[])].concat();
         assert_eq!(verdict(&file), format!("REFUSED 3 {}", timed.len()));
     }
-    // Tag 06 is spared: a length that it must not have, and one that it must.
+    // Tags 06 and 07 are spared: a length that they must not have, and one that they may.
     assert_eq!(verdict(&[6, 0, 0]), "REFUSED 5 0");
     assert_eq!(verdict(&usual_times(0)), "REFUSED 12 25");
+    assert_eq!(verdict(&[7, 0, 0]), "REFUSED 5 0");
+    assert_eq!(verdict(&reply(1, 2, &[0])), "REFUSED 8 0");
 }
 
 #[test]
@@ -153,13 +155,14 @@ fn verdict_4_times() {
 #[test]
 fn verdict_5_length() {
     let zeros = [0; 300];
-    let lengths: [(u8, std::ops::RangeInclusive<usize>); 6] = [
+    let lengths: [(u8, std::ops::RangeInclusive<usize>); 7] = [
         (1, 2..=2),
         (2, 3..=3),
         (3, 3..=10),
         (4, 4..=19),
         (5, 8..=8),
         (6, 22..=22),
+        (7, 3..=10),
     ];
     for (tag, allowed) in lengths {
         for length in (0..30).chain([256 + allowed.start(), 300]) {
@@ -532,11 +535,14 @@ fn verdict_15_after_the_fields() {
     for (number, late) in [
         (2, vec![4]),
         (2, vec![4, 0, 4, 1, 0, 1]),
-        (3, field(7, &[])),
+        (3, field(8, &[])),
         (4, intervals(90, 110)),
         (4, entry(1, 0, 1, &[3])),
         (5, field(6, &[])),
         (6, usual_times(1_000_001)),
+        (5, field(7, &[])),
+        (10, reply(1, 3, &[0, 2])),
+        (11, reply(3, 1, &[0, 2])),
     ] {
         let file = [&whole[..], &late].concat();
         let expected = format!("REFUSED {number} {}", whole.len());

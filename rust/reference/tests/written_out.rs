@@ -4,8 +4,8 @@ mod common;
 
 use common::model::ModelPlan;
 use common::{
-    device, entry, first_plan, intervals, least_plan, link, path, plan_a, row_plan, split, times,
-    usual_times, Driver, Random,
+    device, entry, first_plan, intervals, least_plan, link, path, plan_a, reply, row_plan, split,
+    times, usual_times, Driver, Random,
 };
 use reference::{Unit, WRITTEN_OUT};
 
@@ -102,6 +102,21 @@ fn full_plan() -> Vec<u8> {
     file
 }
 
+/// The full plan with a reply to every command: round the ring the other way, or over the same links
+/// where the target is at the initiator's own router.
+fn with_replies(full_plan: &[u8]) -> Vec<u8> {
+    let mut file = full_plan.to_vec();
+    for path in split(full_plan).iter().filter(|field| field[0] == 3) {
+        let (row, target) = (path[3], path[4]);
+        let hops = (row + 8 - (target - 16) / 6) % 8;
+        let mut links = vec![target];
+        links.extend((0..hops).map(|hop| 8 + ((target - 16) / 6 + hop) % 8));
+        links.push(row);
+        file.extend(reply(row, target, &links));
+    }
+    file
+}
+
 /// The same plan in another order.
 fn shuffled(file: &[u8], random: &mut Random) -> Vec<u8> {
     let mut fields = split(file);
@@ -128,7 +143,8 @@ fn orders_make_no_difference() {
     ]);
     let timed = [full_plan(), usual_times(39_450)].concat();
     let row = row_plan(&[entry(0, 3, 2, &[7, 2, 8])], &usual_times(0));
-    for file in [many, full_plan(), timed, row] {
+    let (replied, both) = (with_replies(&full_plan()), with_replies(&timed));
+    for file in [many, full_plan(), timed, row, replied, both] {
         let first = Driver::new(&file);
         let expected = ModelPlan::judge(&file).unwrap().written_out();
         assert_eq!(first.written_out(), expected);
@@ -143,15 +159,17 @@ fn orders_make_no_difference() {
 #[test]
 fn as_long_as_its_file() {
     assert_eq!(WRITTEN_OUT, 16_384);
-    // No plan has more than 64 devices and links, 128 paths of 8 links, 512 entries of 16 targets,
-    // intervals and times.
-    const { assert!(64 * 5 + 64 * 6 + 128 * 13 + 512 * 22 + 11 + 25 <= WRITTEN_OUT) };
+    // No plan has more than 64 devices and links, 128 paths of 8 links and as many replies, 512 entries
+    // of 16 targets, intervals and times.
+    const { assert!(64 * 5 + 64 * 6 + 2 * 128 * 13 + 512 * 22 + 11 + 25 <= WRITTEN_OUT) };
     let timed = [full_plan(), usual_times(1)].concat();
+    let replied = with_replies(&timed);
     let one_entry = plan_a(&[entry(2, 63, 16, &[4, 3])]);
     for file in [
         first_plan(),
         full_plan(),
         timed,
+        replied,
         one_entry,
         least_plan(0, 1),
     ] {

@@ -1,4 +1,4 @@
-//! epoch [FILE]: prints two sheets, then loads a plan (FILE, or the first sample of document 01), runs the box for one epoch of 64
+//! epoch [FILE]: prints three sheets, then loads a plan (FILE, or the first sample of document 01), runs the box for one epoch of 64
 //! time-codes with a few requests, replies and clock readings, and prints what it answers: the same as `c/example.c`.
 
 use spwd::{records, Latencies, Plan, Record, Spwd, Verdict};
@@ -23,6 +23,7 @@ fn main() -> ExitCode {
     }
     sheet(256);
     sheet(LENGTH_MOST + 1);
+    sheet2(2, 256);
     let file = match std::env::args_os().nth(1) {
         None => FIRST_SAMPLE.to_vec(),
         Some(name) => match std::fs::read(&name) {
@@ -43,20 +44,34 @@ fn main() -> ExitCode {
     }
 }
 
+const LATENCIES: Latencies = Latencies {
+    a: 5_000,
+    d: 5_000,
+    f: 5_000,
+    g: 5_000,
+};
+
 /// How long a transaction of so many bytes takes over four routers at 200 Mbit/s, with 5 us for each latency.
 fn sheet(length: u16) {
-    let latencies = Latencies {
-        a: 5_000,
-        d: 5_000,
-        f: 5_000,
-        g: 5_000,
-    };
-    match spwd::sheet(4, 200, length, latencies) {
+    match spwd::sheet(4, 200, length, LATENCIES) {
         Ok(sheet) => println!(
             "sheet of {length} bytes: {} ns, {} of them for the data",
             sheet.total, sheet.e
         ),
         Err(refusal) => println!("sheet of {length} bytes: {refusal}"),
+    }
+}
+
+/// The same where the reply comes home another way, over so many routers.
+fn sheet2(reply_routers: u8, length: u16) {
+    print!("sheet of {length} bytes, reply over {reply_routers} routers: ");
+    match spwd::sheet2(4, reply_routers, 200, length, LATENCIES) {
+        Ok(sheet) => println!(
+            "{} ns, {} of them for the reply",
+            sheet.total,
+            sheet.h + sheet.i
+        ),
+        Err(refusal) => println!("{refusal}"),
     }
 }
 

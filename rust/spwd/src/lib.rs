@@ -6,7 +6,7 @@
 //!
 //! Numbers are those of document 01; `docs/CARD.md` says of each what it means and what to do. Whatever can be refused answers a
 //! [`Result`]: a load the [`Counts`] of the plan or the [`Fault`] of the file, events and writing out what they have to say or a
-//! [`Refusal`], and [`sheet()`], which asks no box, the time of a transaction or that a number is out of range.
+//! [`Refusal`], and [`sheet()`] and [`sheet2()`], which ask no box, the time of a transaction or that a number is out of range.
 //!
 //! ```
 //! use spwd::{records, Counts, Record, Spwd, READ, RECORDS_ROOM};
@@ -43,13 +43,13 @@ pub use event::{Answer, Ended, Event, ERROR, READ, RESERVED, SUCCESS, WRITE};
 pub use plan::Plan;
 pub use record::{records, Record, Records};
 pub use refusal::Refusal;
-pub use sheet::{sheet, Latencies, Sheet, SheetOutOfRange};
+pub use sheet::{sheet, sheet2, Latencies, Sheet, SheetOutOfRange};
 pub use spwd::Spwd;
 pub use verdict::{Counts, Fault, Line, Verdict};
 pub use watchdog::Watchdog;
 
 /// The version of the interface that this crate is written for; `SPWD_VERSION` of `c/spwd.h`.
-pub const VERSION: u32 = 3;
+pub const VERSION: u32 = 4;
 
 /// Bytes of the longest plan file that is not refused for its length alone.
 pub const FILE_MOST: usize = 16_384;
@@ -67,13 +67,13 @@ pub const LINE_ROOM: usize = 40;
 pub const SLOTS: u8 = 64;
 /// How many initiators a plan has at most.
 pub const INITIATORS_MOST: usize = 8;
-/// How many paths.
+/// How many paths, and as many replies: one for each path at most.
 pub const PATHS_MOST: usize = 128;
 /// How many requests of an initiator wait at most.
 pub const WAITING_MOST: usize = 8;
 /// Data bytes of a request at most, and of a sheet.
 pub const LENGTH_MOST: u16 = 4_096;
-/// Routers of a path at most, and of a sheet.
+/// Routers of a path or a reply at most, and of each way of a sheet.
 pub const ROUTERS_MOST: u8 = 7;
 /// Mbit/s of a sheet at least, and of a plan's times.
 pub const RATE_LEAST: u16 = 2;

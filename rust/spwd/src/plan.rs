@@ -12,7 +12,8 @@ pub struct Plan {
     pub(crate) ends: [u8; 128],
     pub(crate) rows: [u8; 8],
     pub(crate) reach: [u64; 8],
-    pub(crate) paths: [u8; 1408],
+    /// 128 rows of 11 bytes for the paths, and as many for the replies.
+    pub(crate) paths: [u8; 2816],
     pub(crate) spans: [u8; 512],
     pub(crate) aims: [u64; 512],
     pub(crate) numbers: [u32; 524],
@@ -26,7 +27,7 @@ impl Plan {
             ends: [0; 128],
             rows: [0; 8],
             reach: [0; 8],
-            paths: [0; 1408],
+            paths: [0; 2816],
             spans: [0; 512],
             aims: [0; 512],
             numbers: [0; 524],

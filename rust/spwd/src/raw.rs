@@ -13,7 +13,7 @@ type Sets = [u64; 3];
 type Ends = [u8; 128];
 type Rows = [u8; 8];
 type Reach = [u64; 8];
-type Paths = [u8; 1408];
+type Paths = [u8; 2816];
 type Spans = [u8; 512];
 type Aims = [u64; 512];
 type Numbers = [u32; 524];
@@ -330,10 +330,15 @@ pub(crate) fn print(verdict: &[u32; 5], line: &mut [u8; LINE_ROOM]) -> usize {
 
 /// The number, the total, and the five terms that are worked out.
 #[inline]
-pub(crate) fn sheet(routers: u8, rate: u16, length: u16, latencies: &[u32; 4]) -> [u32; 7] {
+pub(crate) fn sheet(
+    [command, reply]: [u8; 2],
+    rate: u16,
+    length: u16,
+    latencies: &[u32; 4],
+) -> [u32; 7] {
     let mut answer = [0; 7];
     // SAFETY: numbers, and references of the sizes that are declared.
-    unsafe { spwd_c_sheet(routers, routers, rate, length, latencies, &mut answer) }
+    unsafe { spwd_c_sheet(command, reply, rate, length, latencies, &mut answer) }
     answer
 }
 

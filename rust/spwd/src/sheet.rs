@@ -52,8 +52,8 @@ impl fmt::Display for SheetOutOfRange {
 
 impl core::error::Error for SheetOutOfRange {}
 
-/// How long one transaction takes: over so many routers, which are the links of its path less one, at a rate in Mbit/s, with so many data
-/// bytes and these latencies. Every term is rounded up by itself.
+/// How long one transaction takes whose reply goes back over the links of its command: over so many routers each way, which are the links
+/// less one, at a rate in Mbit/s, with so many data bytes and these latencies. Every term is rounded up by itself.
 ///
 /// ```
 /// use spwd::{sheet, Latencies};
@@ -71,7 +71,34 @@ pub fn sheet(
     length: u16,
     latencies: Latencies,
 ) -> Result<Sheet, SheetOutOfRange> {
+    sheet2(routers, routers, rate, length, latencies)
+}
+
+/// The same for a reply with a way of its own: over so many routers on the command's way and so many on the reply's. Terms (b) and (c) go
+/// by the command's routers, but for the reply address in (c); it and the terms (h) and (i) go by the reply's.
+///
+/// ```
+/// use spwd::{sheet, sheet2, Latencies};
+///
+/// // Out over four routers; the reply comes home over two.
+/// let latencies = Latencies { a: 5_000, d: 5_000, f: 5_000, g: 5_000 };
+/// let home = sheet2(4, 2, 200, 256, latencies).unwrap();
+/// assert_eq!((home.b, home.c, home.h, home.i), (2_400, 1_200, 1_200, 500));
+/// assert_eq!(home.total, 38_150);
+/// assert_eq!(sheet2(4, 4, 200, 256, latencies), sheet(4, 200, 256, latencies));
+/// ```
+///
+/// # Errors
+/// [`SheetOutOfRange`]: as for [`sheet()`], for the routers of either way.
+pub fn sheet2(
+    command_routers: u8,
+    reply_routers: u8,
+    rate: u16,
+    length: u16,
+    latencies: Latencies,
+) -> Result<Sheet, SheetOutOfRange> {
     let Latencies { a, d, f, g } = latencies;
+    let routers = [command_routers, reply_routers];
     let [number, terms @ ..] = raw::sheet(routers, rate, length, &[a, d, f, g]);
     if number != 0 {
         debug_assert_eq!((number, terms), (SheetOutOfRange::NUMBER, [0; 6]));

@@ -11,7 +11,7 @@ pub struct Counts {
     pub devices: u8,
     /// Links given.
     pub links: u8,
-    /// Paths given.
+    /// Paths given; replies are not counted.
     pub paths: u8,
     /// Entries given.
     pub entries: u16,
@@ -35,7 +35,7 @@ pub enum Fault {
         /// The entry's slot.
         slot: u8,
     },
-    /// 14: two initiators clash.
+    /// 14: two initiators clash, by the links of their commands or of their replies.
     Clash {
         /// In this slot.
         slot: u8,
@@ -91,17 +91,17 @@ impl Verdict {
     pub const TAG_ORDER: u8 = 4;
     /// A length that the tag does not allow.
     pub const FIELD_LENGTH: u8 = 5;
-    /// A number out of range, or a link or path from a device to itself.
+    /// A number out of range, or a link, path or reply from a device to itself.
     pub const OUT_OF_RANGE: u8 = 6;
-    /// Given before.
+    /// A device, link, path, entry or reply that was given before, or a target twice in one entry.
     pub const GIVEN_BEFORE: u8 = 7;
     /// A device or link that was not given before, or a router as initiator or target.
     pub const NOT_GIVEN: u8 = 8;
-    /// A ninth initiator, or the 129th path.
+    /// A ninth initiator, or the 129th path. A reply makes no initiator and is no path.
     pub const TOO_MANY: u8 = 9;
-    /// The links of a path are no walk.
+    /// The links of a path are no walk from its initiator to its target, or those of a reply none from the target back to the initiator.
     pub const NO_WALK: u8 = 10;
-    /// An entry's target has no path from its initiator.
+    /// An entry's target has no path from its initiator, or a reply's pair has none.
     pub const NO_PATH: u8 = 11;
     /// There are no intervals.
     pub const NO_INTERVALS: u8 = 12;

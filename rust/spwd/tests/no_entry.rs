@@ -37,7 +37,7 @@ fn behind_the_fields() {
     for (file, last) in files().iter().zip([0, 90, 11, 101]) {
         let length = file.len();
         prints(&file[..length - 1], &format!("REFUSED 2 {last}"));
-        let unknown = [file, &[7, 0, 0][..]].concat();
+        let unknown = [file, &[8, 0, 0][..]].concat();
         prints(&unknown, &format!("REFUSED 3 {length}"));
         let second = [file, &INTERVALS[..]].concat();
         prints(&second, &format!("REFUSED 4 {length}"));

@@ -37,7 +37,8 @@ fn verdicts_of_small_files() {
     prints(&INTERVALS, "REFUSED 15 11");
     prints(&INTERVALS.repeat(2), "REFUSED 4 11");
     prints(&[6, 0, 0], "REFUSED 5 0");
-    prints(&[7, 0, 0], "REFUSED 3 0");
+    prints(&[7, 0, 0], "REFUSED 5 0");
+    prints(&[8, 0, 0], "REFUSED 3 0");
     prints(&[0; 16_385], "REFUSED 1 0");
     prints(&[0; 16_384], "REFUSED 3 0");
 }

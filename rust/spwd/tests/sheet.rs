@@ -1,6 +1,6 @@
-//! The sheet by itself: T-01's sample, every bound on both sides, and the tables of source document 003.
+//! The sheet by itself: T-01's sample, every bound on both sides, each way with routers of its own, and the tables of source document 003.
 
-use spwd::{sheet, Latencies, Sheet, SheetOutOfRange};
+use spwd::{sheet, sheet2, Latencies, Sheet, SheetOutOfRange};
 use spwd::{LATENCY_MOST, LENGTH_MOST, RATE_LEAST, RATE_MOST, ROUTERS_MOST};
 
 const FIVE: Latencies = Latencies {
@@ -47,6 +47,42 @@ fn headers() {
         assert_eq!(terms.i, 1_000 * (u32::from(routers) + 8));
         assert_eq!((terms.b, terms.h), (600 * u32::from(routers), terms.b));
     }
+}
+
+/// T-03: "R of each way for its own terms (P by the reply's R)". At 10 Mbit/s a byte takes 1,000 ns.
+#[test]
+fn each_way() {
+    let addresses = [0, 4, 4, 4, 4, 8, 8, 8];
+    for command in 0..=ROUTERS_MOST {
+        for (reply, address) in (0..=ROUTERS_MOST).zip(addresses) {
+            let terms = sheet2(command, reply, 10, 0, Latencies::default()).unwrap();
+            let (out, back) = (u32::from(command), u32::from(reply));
+            assert_eq!((terms.b, terms.h), (600 * out, 600 * back));
+            assert_eq!(terms.c, 1_000 * (out + 16 + address));
+            assert_eq!(terms.i, 1_000 * (back + 8));
+            let total = terms.b + terms.c + terms.e + terms.h + terms.i;
+            assert_eq!((terms.e, terms.total), (1_000, total));
+        }
+    }
+}
+
+/// With 5,000 each, 256 bytes and 200 Mbit/s, where a byte takes 50 ns: 20,000 for the latencies, 12,850 for the data, and
+/// 600 × 1 + 50 × (1 + 16 + 8) + 600 × 5 + 50 × (5 + 8) = 5,500 over one router out and five back;
+/// 600 × 5 + 50 × (5 + 16 + 4) + 600 × 1 + 50 × (1 + 8) = 5,300 over five out and one back. At 300 each term is rounded up by itself.
+#[test]
+fn out_is_not_back() {
+    assert_eq!(sheet2(1, 5, 200, 256, FIVE).unwrap().total, 38_350);
+    assert_eq!(sheet2(5, 1, 200, 256, FIVE).unwrap().total, 38_150);
+    assert_eq!(sheet2(4, 4, 200, 256, FIVE), sheet(4, 200, 256, FIVE));
+    let up = Sheet {
+        total: 600 + 834 + 34 + 3_000 + 434,
+        b: 600,
+        c: 834,
+        e: 34,
+        h: 3_000,
+        i: 434,
+    };
+    assert_eq!(sheet2(1, 5, 300, 0, Latencies::default()), Ok(up));
 }
 
 /// Each latency is in the total once, whichever it is.
@@ -103,6 +139,21 @@ fn bounds() {
         ] {
             assert_eq!(sheet(4, 200, 256, latencies), Err(SheetOutOfRange));
         }
+    }
+}
+
+/// Each way has the bound of its own, and all other bounds are those of `sheet`.
+#[test]
+fn bounds_of_each_way() {
+    for (command, reply) in [(0, ROUTERS_MOST), (ROUTERS_MOST, 0)] {
+        assert!(sheet2(command, reply, RATE_LEAST, LENGTH_MOST, FIVE).is_ok());
+        let refused = Err(SheetOutOfRange);
+        assert_eq!(sheet2(command, reply, RATE_MOST + 1, 0, FIVE), refused);
+        assert_eq!(sheet2(command, reply, 200, LENGTH_MOST + 1, FIVE), refused);
+    }
+    for over in [ROUTERS_MOST + 1, u8::MAX] {
+        assert_eq!(sheet2(over, 0, 200, 256, FIVE), Err(SheetOutOfRange));
+        assert_eq!(sheet2(0, over, 200, 256, FIVE), Err(SheetOutOfRange));
     }
 }
 

@@ -177,7 +177,7 @@ fn place_of_the_field() {
     prints(&[&whole, &INTERVALS[..]].concat(), "REFUSED 4 25");
     prints(&whole, "REFUSED 12 25");
     prints(
-        &[&INTERVALS[..], &whole, &field(7, &[])].concat(),
+        &[&INTERVALS[..], &whole, &field(8, &[])].concat(),
         "REFUSED 3 36",
     );
 }

@@ -19,26 +19,26 @@ of-row P n t h e =
     let r = find-some (λ (x : Tag). eqb n (x .number)) tags t e in
     (eqb-true n (t .number) (r .1), all-elim P tags t h (r .0))
 
--- "tag not 01 to 05", and 06 is spared: each number from 1 to 6 has a row, and no other has one
-pub tag-known : (n : ℕ) → 1 ≤ n → n ≤ 6 → isTag n ≡ true
+-- "tag not 01 to 05", and 06 and 07 are spared: each number from 1 to 7 has a row, and no other has one
+pub tag-known : (n : ℕ) → 1 ≤ n → n ≤ 7 → isTag n ≡ true
 unfolding all find isSome upFrom tags tagOf isTag
-tag-known n l h = all-elim isTag (upFrom 6 1) n refl (in-upFrom 6 1 n l (omega arith))
+tag-known n l h = all-elim isTag (upFrom 7 1) n refl (in-upFrom 7 1 n l (omega arith))
 
-no-tag : (n : ℕ) → (1 ≤ n → n ≤ 6 → ⊥) → tagOf n ≡ none
+no-tag : (n : ℕ) → (1 ≤ n → n ≤ 7 → ⊥) → tagOf n ≡ none
 unfolding all tags
 no-tag n out = go (tagOf n) refl
   where
     within : Tag → Bool
-    within t = leb 1 (t .number) && leb (t .number) 6
+    within t = leb 1 (t .number) && leb (t .number) 7
 
     go : (o : Option Tag) → tagOf n ≡ o → o ≡ none
     go none e = refl
     go (some t) e =
         let r = of-row within n t refl e in
-        let b = both-true (leb 1 (t .number)) (leb (t .number) 6) (r .1) in
-        absurd (out (omega (arith, r .0, leb-true 1 (t .number) (b .0))) (omega (arith, r .0, leb-true (t .number) 6 (b .1))))
+        let b = both-true (leb 1 (t .number)) (leb (t .number) 7) (r .1) in
+        absurd (out (omega (arith, r .0, leb-true 1 (t .number) (b .0))) (omega (arith, r .0, leb-true (t .number) 7 (b .1))))
 
-pub tag-unknown : (n : ℕ) → (1 ≤ n → n ≤ 6 → ⊥) → isTag n ≡ false
+pub tag-unknown : (n : ℕ) → (1 ≤ n → n ≤ 7 → ⊥) → isTag n ≡ false
 unfolding isTag isSome
 tag-unknown n out = ap isSome (no-tag n out)
 
@@ -69,6 +69,6 @@ pub allowed-by : {n tag : ℕ} {t : Tag} (size : ℕ) → tag ≡ n → tagOf n 
 unfolding lengthAllowed
 allowed-by size h e = rw (h, e, lengthAllowed)
 
-pub none-allowed : (n size : ℕ) → (1 ≤ n → n ≤ 6 → ⊥) → false ≡ lengthAllowed n size
+pub none-allowed : (n size : ℕ) → (1 ≤ n → n ≤ 7 → ⊥) → false ≡ lengthAllowed n size
 unfolding lengthAllowed
 none-allowed n size out = rw (no-tag n out, lengthAllowed)

@@ -1,11 +1,12 @@
 -- A list made of parts that all have one width: the parts in front, those behind, and what stands in a part.
 use mathlib.Core.Path.{_≡_, refl, sym}
-use mathlib.Core.List.{List, [], _∷_, flatMap, List·Memᴰ, List·Memᴰ·head, List·Memᴰ·tail}
+use mathlib.Core.List.{List, [], _∷_, flatMap, append-assoc, List·Memᴰ, List·Memᴰ·head, List·Memᴰ·tail}
 use Prim.Native.Nat.{ℕ, zero, suc, _+_, _*_, _<_}
 use native.Mathlib.Nat.{zero-mul, suc-mul}
 use native.Mathlib.Omega.{arith}
-use lib.ListN.{length, getD, take, drop, length-append, List·getD-append}
-use lib.Seq.{take-nil, drop-nil, take-append-add, drop-append-add, getD-append-add}
+use lib.ListN.{length, getD, take, drop, set, length-append, List·getD-append}
+use lib.Seq.{paste, take-nil, drop-nil, take-all, set-split, take-append-add, drop-append-add, getD-append-add}
+use Rattle.lists.specs.laws.Append.{flat-append}
 
 module _ {A B : Type 0} (f : A → List B) (w : ℕ) where
   -- every element's part has the width w
@@ -35,6 +36,14 @@ module _ {A B : Type 0} (f : A → List B) (w : ℕ) where
   drop-chunks (suc k) [] h = drop-nil (suc k * w)
   drop-chunks (suc k) (x ∷ xs) h =
       rw (one-more k x (h x (List·Memᴰ·head refl)), drop-append-add (f x) (flatMap f xs) (k * w), drop-chunks k xs (λ y m. h y (List·Memᴰ·tail m)))
+
+  -- one part stored anew
+  pub chunk-set : (k : ℕ) (xs : List A) (v : A) → Wide xs → length (f v) ≡ w → k < length xs → flatMap f (set xs k v) ≡ paste (flatMap f xs) (k * w) (f v) w
+  unfolding flatMap
+  chunk-set k xs v h e l =
+      let n : k * w + w ≡ suc k * w = omega (arith, suc-mul k w) in
+      rw (set-split xs k v l, flat-append f (take k xs) (v ∷ drop (suc k) xs), n, take-all w (f v) (omega arith), take-chunks k xs h, drop-chunks (suc k) xs h)
+      (sym (append-assoc (flatMap f (take k xs)) (f v) (flatMap f (drop (suc k) xs))))
 
   pub chunk-at : (k j : ℕ) (xs : List A) (a : A) (d : B) → Wide xs → k < length xs → j < w → getD (flatMap f xs) (k * w + j) d ≡ getD (f (getD xs k a)) j d
   unfolding flatMap

@@ -40,6 +40,11 @@ module _ {A B : Type 0} where
   unfolding flatMap
   flat-one f x = append-nil (f x)
 
+  pub flat-singles : (g : A → B) (xs : List A) → flatMap (λ (x : A). g x ∷ []) xs ≡ map g xs
+  unfolding flatMap
+  flat-singles g [] = refl
+  flat-singles g (x ∷ xs) = ap (λ l. g x ∷ l) (flat-singles g xs)
+
   -- what is left out gives nothing
   pub flat-keep : (t : A → Bool) (f : A → List B) (xs : List A) → ((x : A) → t x ≡ false → f x ≡ []) → flatMap f (keep t xs) ≡ flatMap f xs
   unfolding flatMap keep
@@ -71,7 +76,7 @@ module _ {B : Type 0} where
   flat-suc f zero j = refl
   flat-suc f (suc k) j = ap (λ l. f (suc j) ++ l) (flat-suc f k (suc j))
 
-  flat-from : (f : ℕ → List B) (k i j : ℕ) → flatMap f (upFrom k (i + j)) ≡ flatMap (λ (n : ℕ). f (i + n)) (upFrom k j)
+  pub flat-from : (f : ℕ → List B) (k i j : ℕ) → flatMap f (upFrom k (i + j)) ≡ flatMap (λ (n : ℕ). f (i + n)) (upFrom k j)
   unfolding flatMap upFrom
   flat-from f zero i j = refl
   flat-from f (suc k) i j = ap (λ l. f (i + j) ++ l) (rw (← add-suc i j) (flat-from f k i (suc j)))

@@ -2,8 +2,8 @@
 -- searches for its place find it.
 use mathlib.Core.Path.{_≡_, refl, sym, ap, _∙_}
 use mathlib.Core.Logic.{_≢_, _⊎_, inl, inr}
-use mathlib.Core.List.{List, [], _∷_, _++_, flatMap, append-nil, append-assoc, List·Memᴰ, List·Memᴰ·append-cases, List·Memᴰ·not-nil}
-use mathlib.Core.Bool.{Bool, true, false, _||_, cond, or-true, or-false}
+use mathlib.Core.List.{List, [], _∷_, _++_, flatMap, append-nil, append-assoc, List·Memᴰ, List·Memᴰ·head, List·Memᴰ·tail, List·Memᴰ·append-cases, List·Memᴰ·not-nil}
+use mathlib.Core.Bool.{Bool, true, false, _&&_, _||_, cond, or-true, or-false}
 use Prim.Native.Nat.{ℕ, zero, suc, _+_, _-_, _≤_, _<_}
 use native.Mathlib.Nat.{zero-add, add-zero, add-suc, suc-add}
 use native.Mathlib.Decide.{ℕ-discrete, decLt}
@@ -12,15 +12,16 @@ use lib.ListN.{length, getD, take, drop, length-append, List·getD-append}
 use lib.Seq.{take-at, drop-at, getD-append-add}
 use lib.Dec.{eqb}
 use borrow.Author.Tests.{eqb-true, eq-eqb, ne-eqb}
-use Rattle.lists.specs.Search.{keep, upFrom, below64}
+use Rattle.lists.specs.Search.{any, keep, repeats, upFrom, below64}
 use Rattle.lists.specs.Numbers.{firstFrom}
 use Rattle.lists.specs.Order.{inOrder}
 use Rattle.lists.specs.Insert.{pastLast}
-use Rattle.lists.specs.laws.Bools.{not-both}
-use Rattle.lists.specs.laws.Search.{keep-append, keep-elim, keep-same, flat-elim, upFrom-range}
+use Rattle.lists.specs.laws.Bools.{not-both, true-both, neither}
+use Rattle.lists.specs.laws.Search.{any-false, keep-append, keep-elim, keep-same, flat-elim, upFrom-range}
 use Rattle.lists.specs.laws.At.{read-member}
 use Rattle.lists.specs.laws.Append.{flat-append}
-use Rattle.lists.specs.laws.Order.{flat-same}
+use Rattle.lists.specs.laws.Order.{flat-same, pair-repeats}
+use Rattle.lists.specs.laws.Shuffle.{eq-respects, shuffled-middle}
 use Rattle.lists.specs.laws.Numbers.{Finds, first-from}
 
 module _ {A : Type 0} where
@@ -198,17 +199,49 @@ module _ {A : Type 0} (key : A → ℕ) where
 abbrev pub Before : ℕ → ℕ → ℕ → ℕ → Type 0
 Before i t j u = (i < j) ⊎ ((i ≡ j) × (t < u))
 
--- in the order of two keys, where no element has both keys of the new one
-pub inserted-orders : {A : Type 0} (a b : A → ℕ) (xs : List A) (x : A) → a x < 64 → b x < 64 → ((y : A) → List·Memᴰ y xs → a y ≡ a x → b y ≡ b x → ⊥)
-    → Inserted (λ y. Before (a y) (b y) (a x) (b x)) (λ y. Before (a x) (b x) (a y) (b y)) (inOrder a (inOrder b xs)) x (inOrder a (inOrder b (xs ++ (x ∷ []))))
-inserted-orders {A} a b xs x h g d = inserted-map less more (inserted-order a (inserted-order b (inserted-last xs x) g) h)
+-- in the order of two keys, where no other element has both keys of x
+orders-around : {A : Type 0} (a b : A → ℕ) {Others : A → Type 0} {ys : List A} {x : A} {zs : List A} → Inserted Others Others ys x zs → a x < 64 → b x < 64
+    → ((y : A) → Others y → a y ≡ a x → b y ≡ b x → ⊥)
+    → Inserted (λ y. Before (a y) (b y) (a x) (b x)) (λ y. Before (a x) (b x) (a y) (b y)) (inOrder a (inOrder b ys)) x (inOrder a (inOrder b zs))
+orders-around {A} a b {Others} {ys} {x} i h g d = inserted-map less more (inserted-order a (inserted-order b i g) h)
   where
-    less : (y : A) → (a y < a x) ⊎ ((a y ≡ a x) × ((b y < b x) ⊎ ((b y ≡ b x) × List·Memᴰ y xs))) → Before (a y) (b y) (a x) (b x)
+    less : (y : A) → (a y < a x) ⊎ ((a y ≡ a x) × ((b y < b x) ⊎ ((b y ≡ b x) × Others y))) → Before (a y) (b y) (a x) (b x)
     less y (inl l) = inl l
     less y (inr (e, inl l)) = inr (e, l)
     less y (inr (e, inr (f, m))) = absurd (d y m e f)
 
-    more : (y : A) → (a x < a y) ⊎ ((a x ≡ a y) × ((b x < b y) ⊎ ((b x ≡ b y) × ⊥))) → Before (a x) (b x) (a y) (b y)
+    more : (y : A) → (a x < a y) ⊎ ((a x ≡ a y) × ((b x < b y) ⊎ ((b x ≡ b y) × Others y))) → Before (a x) (b x) (a y) (b y)
     more y (inl l) = inl l
     more y (inr (e, inl l)) = inr (e, l)
-    more y (inr (e, inr (f, z))) = absurd z
+    more y (inr (e, inr (f, m))) = absurd (d y m (sym e) (sym f))
+
+-- of an element that comes last
+pub inserted-orders : {A : Type 0} (a b : A → ℕ) (xs : List A) (x : A) → a x < 64 → b x < 64 → ((y : A) → List·Memᴰ y xs → a y ≡ a x → b y ≡ b x → ⊥)
+    → Inserted (λ y. Before (a y) (b y) (a x) (b x)) (λ y. Before (a x) (b x) (a y) (b y)) (inOrder a (inOrder b xs)) x (inOrder a (inOrder b (xs ++ (x ∷ []))))
+inserted-orders a b xs x h g d = orders-around a b (inserted-map (λ y m. m) (λ y z. absurd z) (inserted-last xs x)) h g d
+
+-- of an element that is among the others
+inserted-member : {A : Type 0} (xs : List A) (x : A) → List·Memᴰ x xs → (ys : List A) × Inserted (λ y. List·Memᴰ y ys) (λ y. List·Memᴰ y ys) ys x xs
+inserted-member (z ∷ zs) x (List·Memᴰ·head e) = (zs, record { before = []; behind = zs; old = refl; new = rw e; less = λ y m. absurd (List·Memᴰ·not-nil m); more = λ y m. m })
+inserted-member {A} (z ∷ zs) x (List·Memᴰ·tail m) =
+    let (ys, i) = inserted-member zs x m in
+    (z ∷ ys, record { before = z ∷ i .before; behind = i .behind; old = ap (λ l. z ∷ l) (i .old); new = ap (λ l. z ∷ l) (i .new); less = λ y n. front (i .less) y n; more = λ y n. List·Memᴰ·tail (i .more y n) })
+  where
+    front : {us vs : List A} → ((y : A) → List·Memᴰ y us → List·Memᴰ y vs) → (y : A) → List·Memᴰ y (z ∷ us) → List·Memᴰ y (z ∷ vs)
+    front f y (List·Memᴰ·head e) = List·Memᴰ·head e
+    front f y (List·Memᴰ·tail n) = List·Memᴰ·tail (f y n)
+
+pub orders-member : {A : Type 0} (a b : A → ℕ) (xs : List A) (x : A) → a x < 64 → b x < 64 → List·Memᴰ x xs → repeats (λ (y z : A). eqb (a y) (a z) && eqb (b y) (b z)) xs ≡ false
+    → (ys : List A) × Inserted (λ y. Before (a y) (b y) (a x) (b x)) (λ y. Before (a x) (b x) (a y) (b y)) ys x (inOrder a (inOrder b xs))
+unfolding repeats
+orders-member {A} a b xs x h g m once = let (ys, i) = inserted-member xs x m in (inOrder a (inOrder b ys), orders-around a b i h g (other ys i))
+  where
+    same : A → A → Bool
+    same y z = eqb (a y) (a z) && eqb (b y) (b z)
+
+    other : (ys : List A) → Inserted (λ y. List·Memᴰ y ys) (λ y. List·Memᴰ y ys) ys x xs → (y : A) → List·Memᴰ y ys → a y ≡ a x → b y ≡ b x → ⊥
+    other ys i y n e f =
+        let apart : any (same x) ys || repeats same ys ≡ false =
+        ap (λ l. any (same x) l || repeats same l) (i .old)
+        ∙ pair-repeats (shuffled-middle (λ z. refl) (i .before) x (i .behind)) a b (eq-respects a) (eq-respects b) ∙ ap (repeats same) (sym (i .new)) ∙ once in
+        not-both (true-both (eq-eqb (a x) (a y) (sym e)) (eq-eqb (b x) (b y) (sym f))) (any-false (same x) ys y ((neither (any (same x) ys) (repeats same ys) apart) .0) n)

@@ -6,7 +6,7 @@ use native.Mathlib.Nat.{add-assoc, suc-add, sub-zero, zero-sub, suc-sub-suc}
 use native.Mathlib.Numerals.{add-one}
 use native.Mathlib.Omega.{arith}
 use lib.ListN.{length, getD, take, drop, set, replicate, take-append-drop, length-append, length-take, length-drop, List·getD-append}
-use lib.Seq.{paste, length-take-le, take-suc, drop-cons, append-snoc, take-all, take-append-le, take-take, take-at, drop-at, set-at, getD-at, set-split, getD-take, drop-append-le, drop-append-add, drop-drop, take-append-add, take-paste, drop-paste}
+use lib.Seq.{paste, length-take-le, take-suc, drop-cons, append-snoc, take-all, take-append-le, take-take, take-at, drop-at, set-at, getD-at, set-split, getD-take, drop-append-le, drop-append-add, drop-drop, take-append-add, take-paste, drop-paste, length-paste}
 use Rattle.lists.specs.Cells.{padded}
 use Rattle.lists.specs.Insert.{moved, putIn}
 
@@ -64,6 +64,13 @@ module _ {A : Type 0} where
   unfolding putIn
   putIn-set k n x y xs h = set-at (take k xs) x _ y k (length-take-le k xs h)
 
+  -- in the front of a longer list
+  pub putIn-front : (k n : ℕ) (vs xs ys : List A) → k ≤ n → n + length vs ≤ length xs → putIn k n vs (xs ++ ys) ≡ putIn k n vs xs ++ ys
+  unfolding putIn
+  putIn-front k n vs xs ys h l =
+      rw (take-append-le k xs ys (omega arith), drop-append-le k xs ys (omega arith), take-append-le (n - k) (drop k xs) ys (omega (arith, length-drop k xs)), drop-append-le (n + length vs) xs ys l)
+      (simp append-assoc)
+
   drop-replicate : (w n : ℕ) (d : A) → drop w (replicate n d) ≡ replicate (n - w) d
   drop-replicate zero n d = rw sub-zero
   drop-replicate (suc w) zero d = rw zero-sub
@@ -87,3 +94,13 @@ module _ {A : Type 0} where
       sym (drop-drop n (at + w) p) ∙ ap (drop n) (drop-paste xs at us w (omega arith) (omega arith)) ∙ drop-drop n (at + w) xs in
       let near : take (w + n) (us ++ vs) ≡ us ++ take n vs = ap (λ j. take (j + n) (us ++ vs)) (sym e) ∙ take-append-add us vs n in
       rw (take-paste xs at us w (omega arith) (omega arith), far, take-all w us (omega arith), near, add-assoc at w n) (simp append-assoc)
+
+  -- a run of elements stored in a list that is filled up, and behind another list
+  pub padded-paste : (m : ℕ) (d : A) (xs : List A) (at w : ℕ) (vs : List A) → length vs ≡ w → at + w ≤ length xs → padded m d (paste xs at vs w) ≡ paste (padded m d xs) at vs w
+  unfolding padded
+  padded-paste m d xs at w vs e l =
+      let R : List A = replicate (m - length xs) d in
+      rw (length-paste xs at vs w l (omega arith), take-append-le at xs R (omega arith), drop-append-le (at + w) xs R l) (simp append-assoc)
+
+  pub paste-back : (xs ys : List A) (at n : ℕ) (vs : List A) → xs ++ paste ys at vs n ≡ paste (xs ++ ys) (length xs + at) vs n
+  paste-back xs ys at n vs = rw (add-assoc (length xs) at n, take-append-add xs ys at, drop-append-add xs ys (at + n)) (simp append-assoc)

@@ -1,5 +1,5 @@
 -- Laws of the order by a key: it is a shuffle, and lists that differ in their order only come to one order where no key is there twice.
-use mathlib.Core.Path.{_≡_, refl, sym, ap, _∙_}
+use mathlib.Core.Path.{_≡_, refl, sym, ap, _∙_, fun-ext}
 use mathlib.Core.List.{List, [], _∷_, _++_, map, flatMap, map-append, map-id, List·Memᴰ, List·Memᴰ·head, List·Memᴰ·tail}
 use mathlib.Core.Bool.{Bool, true, false, _&&_, _||_, cond, and-comm}
 use Prim.Native.Nat.{ℕ, zero, suc, _+_, _≤_, _<_}
@@ -102,6 +102,10 @@ module _ {A : Type 0} where
           let (c, d) = both-true (eqb m (a x)) (eqb n (b x)) e in
           let (g, h) = both-true (eqb m (a y)) (eqb n (b y)) f in
           true-both (one-number m (a x) (a y) c g) (one-number n (b x) (b y) d h)
+
+  -- a pair of keys is there twice whichever of them is named first
+  pub pair-turned : (a b : A → ℕ) (xs : List A) → repeats (λ (x y : A). eqb (b x) (b y) && eqb (a x) (a y)) xs ≡ repeats (λ (x y : A). eqb (a x) (a y) && eqb (b x) (b y)) xs
+  pair-turned a b xs = ap (λ same. repeats same xs) (fun-ext λ x. fun-ext λ y. and-comm (eqb (b x) (b y)) (eqb (a x) (a y)))
 
 -- whether a key, or a pair of keys, is there twice is the same for lists that differ in their order only
 module _ {A : Type 0} {R : A → A → Type 0} {xs ys : List A} (s : Shuffled R xs ys) where

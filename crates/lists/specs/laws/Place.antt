@@ -72,10 +72,13 @@ module _ {A : Type 0} where
   at-append (z ∷ zs) ys zero x h = h
   at-append (z ∷ zs) ys (suc k) x h = at-append zs ys k x h
 
-  pub at-end : (xs : List A) (x : A) → atPlace (length xs) (xs ++ (x ∷ [])) ≡ some x
+  pub at-seam : (xs : List A) (x : A) (ys : List A) → atPlace (length xs) (xs ++ (x ∷ ys)) ≡ some x
   unfolding atPlace
-  at-end [] x = refl
-  at-end (y ∷ ys) x = at-end ys x
+  at-seam [] x ys = refl
+  at-seam (z ∷ zs) x ys = at-seam zs x ys
+
+  pub at-end : (xs : List A) (x : A) → atPlace (length xs) (xs ++ (x ∷ [])) ≡ some x
+  at-end xs x = at-seam xs x []
 
   -- what is left was in the list, and is no longer
   pub without-member : (xs : List A) (k : ℕ) (x : A) → List·Memᴰ x (without k xs) → List·Memᴰ x xs

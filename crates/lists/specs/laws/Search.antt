@@ -118,6 +118,11 @@ module _ {A : Type 0} (t : A → Bool) where
   keep-none [] h = refl
   keep-none (x ∷ xs) h = rw (h x (List·Memᴰ·head refl)) (keep-none xs (λ y m. h y (List·Memᴰ·tail m)))
 
+  pub keep-all : (xs : List A) → ((x : A) → List·Memᴰ x xs → t x ≡ true) → keep t xs ≡ xs
+  unfolding keep
+  keep-all [] h = refl
+  keep-all (x ∷ xs) h = rw (h x (List·Memᴰ·head refl), keep-all xs (λ y m. h y (List·Memᴰ·tail m)))
+
   pub keep-short : (xs : List A) → length (keep t xs) ≤ length xs
   unfolding keep
   keep-short [] = omega arith

@@ -30,13 +30,13 @@ times-requires : tie.Need-times-requires
 times-requires c κs = search needs
 
 returns : tie.Need-returns
-returns c = λ size p fair rs ps is z.
+returns c = λ size p fair rs ps is z y.
     let s = c .before .before .before .before .before in
     let content = s .before .before .before .before .args .content .now in
     subst (λ (x : Item). (c .times .result ≡ itemFault p x) × (c .times .last .1 .1 .0 ≡ numbersWith size (taken p x)))
     (times-read content (s .before .two-at .ensures) (s .four-at .ensures) (c .before .before .before .before .four-at2 .ensures) (c .before .before .before .four-at3 .ensures)
     (c .before .before .four-at4 .ensures) (c .before .four-at5 .ensures))
-    (c .times .ensures size p fair rs ps is z)
+    (c .times .ensures size p fair rs ps is z y)
 
 pub take-times-spec : {M : Type 1} → statement M
 take-times-spec =

@@ -3,7 +3,7 @@ use mathlib.Core.Path.{_≡_, ap, _∙_}
 use Prim.Native.Nat.{_≤_}
 use native.Mathlib.Omega.{arith}
 use Rattle.rules_plan.specs.Plan.{nth}
-use Rattle.load_paths.specs.Keep.{route}
+use Rattle.load_path_faults.specs.Routes.{route}
 use Rattle.load_path_places.specs.laws.OwnRow.{count-keeps}
 use Rattle.load_paths.specs.laws.Stored.{reach-stored, numbers-stored}
 use Rattle.load_paths.specs.laws.Stored.{paths-stored}

@@ -10,7 +10,7 @@ use Rattle.load_paths.proofs.make_room.Statement.{statement}
 use Rattle.load_paths.proofs.make_room.Tie as tie
 
 abbrev Inv-loop : tie.InvT-loop
-Inv-loop paths₀ start end n₀ paths n = (start ≤ n) × (n ≤ end) × (length paths₀ ≡ 1408 → paths ≡ moved 11 n end paths₀)
+Inv-loop paths₀ start end n₀ paths n = (start ≤ n) × (n ≤ end) × (length paths₀ ≡ 2816 → paths ≡ moved 11 n end paths₀)
 
 abbrev μ-loop : tie.MeasureT-loop
 μ-loop paths₀ start end n₀ paths n = n - start

@@ -14,7 +14,7 @@ use Rattle.lists.specs.laws.Padded.{padded-at}
 use Rattle.lists.specs.laws.Moved.{paste-behind}
 use Rattle.rules_plan.specs.Plan.{nth}
 use Rattle.memory_plan.specs.Memory.{pathRow}
-use Rattle.load_paths.specs.Keep.{route}
+use Rattle.load_path_faults.specs.Routes.{route}
 use Rattle.load_paths.proofs.store_path.Statement.{statement}
 use Rattle.load_paths.proofs.store_path.Tie as tie
 
@@ -35,7 +35,7 @@ eleven p ls at i t h l =
     rw (first-three p at i t (length ls) (omega arith)) (paste-behind p at 3 8 (i ∷ t ∷ length ls ∷ []) (padded 8 0 ls) refl (omega (arith, length-padded 8 0 ls h)) (omega arith))
 
 abbrev Inv-loop : tie.InvT-loop
-Inv-loop paths₀ at initiator target links n k₀ paths k = (k ≤ 8) × (length paths₀ ≡ 1408 → paths ≡ paste paths₀ (at + 3) (padded 8 0 links) k)
+Inv-loop paths₀ at initiator target links n k₀ paths k = (k ≤ 8) × (length paths₀ ≡ 2816 → paths ≡ paste paths₀ (at + 3) (padded 8 0 links) k)
 
 abbrev μ-loop : tie.MeasureT-loop
 μ-loop paths₀ at initiator target links n k₀ paths k = 8 - k

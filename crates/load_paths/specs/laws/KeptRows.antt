@@ -95,8 +95,8 @@ module _ (p : Plan) (f : Fair p) (x : Route) (g : Passes p (path x)) where
   numbers-kept none-yet size = go (isInitiator p i) refl
     where
       go : (b : Bool) → isInitiator p i ≡ b → keptNumbers (rowsOf p) (numbersWith size p) i ≡ numbersWith size q
-      go true e = rw (old-count (rowsOf p) (numbersWith size p) i (has-row e), no-costs p (p .paths) none-yet, no-costs q (q .paths) none-yet, kept-initiators p x e, length-append (p .paths) (x ∷ []))
+      go true e = rw (old-count (rowsOf p) (numbersWith size p) i (has-row e), no-costs p (p .replies) (p .paths) none-yet, no-costs q (q .replies) (q .paths) none-yet, kept-initiators p x e, length-append (p .paths) (x ∷ []))
       go false e =
           let r = inserted e in
           let n : length (initiators q) ≡ count + 1 = ap length (r .new) ∙ simp (length-append, length-take, length-drop) (omega (arith, r .within)) in
-          rw (new-count (rowsOf p) (numbersWith size p) i (no-row-yet e), no-costs p (p .paths) none-yet, no-costs q (q .paths) none-yet, n, length-append (p .paths) (x ∷ []))
+          rw (new-count (rowsOf p) (numbersWith size p) i (no-row-yet e), no-costs p (p .replies) (p .paths) none-yet, no-costs q (q .replies) (q .paths) none-yet, n, length-append (p .paths) (x ∷ []))

@@ -29,13 +29,13 @@ unfolding keptNumbers
 numbers-stored rows numbers now i e = rw (e, count-keeps rows numbers i)
 
 -- room made at the path's place, and its bytes put there
-pub paths-stored : (paths qs rs : List ℕ) (c n k : ℕ) (x : Route) → length paths ≡ 1408 → length (x .links) ≤ 8 → c ≡ n → n < 128
+pub paths-stored : (paths qs rs : List ℕ) (c n k : ℕ) (x : Route) → length paths ≡ 2816 → length (x .links) ≤ 8 → c ≡ n → n < 128
     → (k ≤ c) × ((m : ℕ) → IsPlace paths c (x .start) (x .end) m → k ≡ m)
-    → (length paths ≡ 1408 → qs ≡ moved 11 (k * 11) (c * 11) paths) → (length qs ≡ 1408 → rs ≡ paste qs (k * 11) (pathRow x) 11)
+    → (length paths ≡ 2816 → qs ≡ moved 11 (k * 11) (c * 11) paths) → (length qs ≡ 2816 → rs ≡ paste qs (k * 11) (pathRow x) 11)
     → (m : ℕ) → IsPlace paths n (x .start) (x .end) m → rs ≡ keptPaths paths n m x
 unfolding keptPaths
 paths-stored paths qs rs c n k x e l q h f g r m p =
     let a = g e in
-    let b : length qs ≡ 1408 = ap length a ∙ length-moved 11 (k * 11) (c * 11) paths (omega arith) (omega arith) ∙ e in
+    let b : length qs ≡ 2816 = ap length a ∙ length-moved 11 (k * 11) (c * 11) paths (omega arith) (omega arith) ∙ e in
     let d : k ≡ m = f .1 m (rw q p) in
     r b ∙ ap (λ (l : List ℕ). paste l (k * 11) (pathRow x) 11) a ∙ moved-put 11 (k * 11) (c * 11) (pathRow x) paths (row-length x l) (omega arith) (omega arith) ∙ (rw (d, q))

@@ -1,5 +1,5 @@
 -- `slot_links::with_path` meets its contract. Assumes nothing.
-use mathlib.Core.Path.{sym, ap, _∙_}
+use mathlib.Core.Path.{sym, ap, ap₂, _∙_}
 use mathlib.Core.Bool.{_||_}
 use borrow.Author.Needs.{needs}
 use Rattle.bitsets.specs.Set.{member}
@@ -31,16 +31,26 @@ has-requires c κs = search needs
 path-links-requires : tie.Need-path-links-requires
 path-links-requires c κs = search needs
 
+add-path-links : tie.Need-add-path-links
+add-path-links c = search needs
+
+path-links-requires-2 : tie.Need-path-links-requires-2
+path-links-requires-2 c κs = search needs
+
 union-requires : tie.Need-union-requires
 union-requires c κs = search needs
 
+union-requires-2 : tie.Need-union-requires-2
+union-requires-2 c κs = search needs
+
 returns-2 : tie.Need-returns-2
 returns-2 c l =
-    let h = c .before .before .before in
+    let h = c .before .before .before .before .before .before in
     let n = h .before .before .before in
     let s = n .before .before .args in
     let b = member l (s .links) in
-    c .union .ensures l ∙ ap (λ d. b || d) (c .before .path-links .ensures l)
+    let ways = c .before .union .ensures l ∙ ap₂ (λ x y. x || y) (c .before .before .before .before .path-links .ensures l) (c .before .before .path-links2 .ensures l) in
+    c .union2 .ensures l ∙ ap (λ d. b || d) ways
     ∙ from-to (s .paths .now) (s .initiator) (s .targets) (s .k) b l (n .if1 .left) (sym (h .before .has .ensures) ∙ h .if2 .taken)
 
 returns-3 : tie.Need-returns-3
@@ -51,4 +61,4 @@ returns-3 c l =
 pub with-path-spec : {M : Type 1} → statement M
 with-path-spec =
     tie.close
-    (tie.spec mul-if1 element-copy-out-if1 returns mul-has add-has element-copy-out-has has-requires path-links-requires union-requires returns-2 returns-3)
+    (tie.spec mul-if1 element-copy-out-if1 returns mul-has add-has element-copy-out-has has-requires path-links-requires add-path-links path-links-requires-2 union-requires union-requires-2 returns-2 returns-3)

@@ -6,7 +6,7 @@ use native.Mathlib.Omega.{arith}
 use borrow.Author.Needs.{needs}
 use Rattle.rules_plan.specs.laws.Sheets.{times-range}
 use Rattle.time_sheet.specs.Paced.{paced}
-use Rattle.load_times.specs.laws.Kept.{pace-over, slot-over, in-range, front, begins, ends, refused, kept}
+use Rattle.load_times.specs.laws.Kept.{rate-over, slot-over, in-range, front, begins, ends, refused, kept}
 use Rattle.load_times.proofs.times.Statement.{statement}
 use Rattle.load_times.proofs.times.Tie as tie
 
@@ -14,13 +14,13 @@ out-of-range-requires : tie.Need-out-of-range-requires
 out-of-range-requires c κs = search needs
 
 returns : tie.Need-returns
-returns c = λ size p fair rs ps is z.
+returns c = λ size p fair rs ps is z y.
     let a = c .before .before .args in
     refused (a .rate) (a .a) (a .d) (a .f) (a .g) (a .slot) (a .numbers .now)
-    (pace-over (a .rate) (a .a) (a .d) (a .f) (a .g) (a .slot) (sym (c .before .out-of-range .ensures) ∙ c .if1 .taken)) size p is
+    (rate-over (a .rate) (a .a) (a .d) (a .f) (a .g) (a .slot) (sym (c .before .out-of-range .ensures) ∙ c .if1 .taken)) size p is
 
 returns-2 : tie.Need-returns-2
-returns-2 c = λ size p fair rs ps is z.
+returns-2 c = λ size p fair rs ps is z y.
     let a = c .before .before .before .args in
     refused (a .rate) (a .a) (a .d) (a .f) (a .g) (a .slot) (a .numbers .now) (slot-over (a .rate) (a .a) (a .d) (a .f) (a .g) (a .slot) (c .if2 .taken)) size p is
 
@@ -55,14 +55,14 @@ put-costs-requires c κs =
     times-range (paced (a .rate) (a .a) (a .d) (a .f) (a .g)) (sym (s .before .out-of-range .ensures) ∙ s .if1 .left)
 
 returns-3 : tie.Need-returns-3
-returns-3 c = λ size p fair rs ps is z.
+returns-3 c = λ size p fair rs ps is z y.
     let s = c .before .before .before in
     let a = s .before .before .args in
-    let fill = c .put-costs .ensures p (front (a .rate) (a .a) (a .d) (a .f) (a .g) (a .slot) size p fair z) fair rs ps
-    (begins (a .rate) (a .a) (a .d) (a .f) (a .g) (a .slot) size p fair z (a .numbers .now) is) in
+    let fill = c .put-costs .ensures p (front (a .rate) (a .a) (a .d) (a .f) (a .g) (a .slot) size p fair z y) fair rs ps
+    (begins (a .rate) (a .a) (a .d) (a .f) (a .g) (a .slot) size p fair z y (a .numbers .now) is) in
     kept (a .rate) (a .a) (a .d) (a .f) (a .g) (a .slot) _
     (in-range (a .rate) (a .a) (a .d) (a .f) (a .g) (a .slot) (sym (s .before .out-of-range .ensures) ∙ s .if1 .left) (c .before .before .if2 .left)) size p
-    (ends (a .rate) (a .a) (a .d) (a .f) (a .g) (a .slot) size p fair z _ fill)
+    (ends (a .rate) (a .a) (a .d) (a .f) (a .g) (a .slot) size p fair z y _ fill)
 
 pub times-spec : {M : Type 1} → statement M
 times-spec =

@@ -10,26 +10,29 @@ use native.Mathlib.Omega.{arith}
 use lib.ListN.{length, take, drop, set, take-append-drop, List·getD-append}
 use lib.Seq.{take-suc}
 use borrow.Author.Tests.{eq-eqb}
-use Rattle.lists.specs.Search.{any, repeats}
+use Rattle.lists.specs.Search.{any, find}
 use Rattle.lists.specs.Place.{atPlace}
 use Rattle.lists.specs.laws.Append.{once-before, set-behind}
 use Rattle.lists.specs.laws.At.{at-some, at-within, read-at}
 use Rattle.lists.specs.laws.Bools.{eqb-sym, not-both}
 use Rattle.lists.specs.laws.Search.{any-intro, any-same}
-use Rattle.lists.specs.laws.Shuffle.{eq-respects}
-use Rattle.lists.specs.laws.Order.{pair-repeats}
 use Rattle.rules_plan.specs.Plan.{nth, Route, Times, Plan}
 use Rattle.rules_plan.specs.Sheet.{fixedTime}
-use Rattle.rules_plan.specs.Meaning.{isInitiator, leadsFrom, initiators, routers}
+use Rattle.rules_plan.specs.Meaning.{isInitiator, leadsFrom, initiators, homeOf, routers}
 use Rattle.rules_plan.specs.Good.{samePathEnds}
 use Rattle.rules_plan.specs.laws.Fair.{Fair}
 use Rattle.rules_plan.specs.laws.InRange.{path-ranged}
 use Rattle.memory_plan.specs.Memory.{rowsOf, pathsInOrder, pathsOf, costOf}
 use Rattle.memory_plan.specs.Rows.{rowAmong}
 use Rattle.memory_plan.specs.laws.Among.{row-place, row-none}
-use Rattle.memory_plan.specs.laws.PathRows.{path-order, path-count, path-at, start-byte, end-byte, count-byte}
+use Rattle.memory_plan.specs.laws.PathRows.{order-once, path-count, path-at, path-rows, start-byte, end-byte, count-byte}
 use Rattle.memory_plan.specs.laws.Costs.{costs-more}
 use Rattle.load_times.specs.Filling.{Filling}
+
+-- without replies each comes home over its path
+same-way : (ys : List Route) (y : Route) → ys ≡ [] → homeOf ys y ≡ y
+unfolding homeOf find
+same-way ys y e = ap (λ (l : List Route). homeOf l y) e
 
 -- path number k stands among the others but once
 module _ (p : Plan) (fair : Fair p) (k : ℕ) (y : Route) (at : atPlace k (pathsInOrder p) ≡ some y) where
@@ -38,27 +41,24 @@ module _ (p : Plan) (fair : Fair p) (k : ℕ) (y : Route) (at : atPlace k (paths
       ap (λ (n : ℕ). take n (pathsInOrder p)) (add-one k) ∙ take-suc (pathsInOrder p) k y (at-within (pathsInOrder p) k y at)
       ∙ ap (λ (w : Route). take k (pathsInOrder p) ++ (w ∷ [])) (read-at (pathsInOrder p) k y y at)
 
-  once : repeats samePathEnds (pathsInOrder p) ≡ false
-  unfolding samePathEnds
-  once = sym (pair-repeats (path-order p (fair .lengths) (fair .ranges)) (λ w. w .start) (λ w. w .end) (eq-respects _) (eq-respects _)) ∙ fair .lists .paths .once
-
   new : any (leadsFrom (y .start) (y .end)) (take k (pathsInOrder p)) ≡ false
   unfolding leadsFrom samePathEnds
   new =
       let rest : (take k (pathsInOrder p) ++ (y ∷ [])) ++ drop (k + 1) (pathsInOrder p) ≡ pathsInOrder p = rw (← next-is) (take-append-drop (k + 1) (pathsInOrder p)) in
       any-same _ _ (take k (pathsInOrder p)) (λ w _. rw (eqb-sym (y .start) (w .start), eqb-sym (y .end) (w .end)))
-      ∙ once-before samePathEnds (take k (pathsInOrder p)) y (pathsInOrder p) (drop (k + 1) (pathsInOrder p), rest) once
+      ∙ once-before samePathEnds (take k (pathsInOrder p)) y (pathsInOrder p) (drop (k + 1) (pathsInOrder p), rest) (order-once p (fair .lengths) (fair .ranges) (fair .lists .paths .once))
 
   -- its cell is stored
   more : (x : Times) (front : List ℕ) (numbers : List ℕ) (r v : ℕ) → Filling p x front k numbers → atPlace r (initiators p) ≡ some (y .start) → r < 8 → y .end < 64
-      → v ≡ costOf x (some y) → Filling p x front (k + 1) (set numbers (12 + r * 64 + y .end) v)
+      → v ≡ costOf x (p .replies) (some y) → Filling p x front (k + 1) (set numbers (12 + r * 64 + y .end) v)
   more x front numbers r v f row short below is = record {
     twelve = f .twelve;
     rows = f .rows;
     paths = f .paths;
+    no-replies = f .no-replies;
     numbers =
         let place : 12 + r * 64 + y .end ≡ length front + (r * 64 + y .end) = omega (arith, f .twelve) in
-        rw (f .numbers, place, is, next-is) (set-behind front _ (r * 64 + y .end) _ ∙ ap (_++_ front) (costs-more p x (take k (pathsInOrder p)) y r row short below new));
+        rw (f .numbers, place, is, next-is) (set-behind front _ (r * 64 + y .end) _ ∙ ap (_++_ front) (costs-more p x (p .replies) (take k (pathsInOrder p)) y r row short below new));
   }
 
 -- how many paths there are
@@ -85,10 +85,10 @@ module _ (p : Plan) (fair : Fair p) (x : Times) (front rows paths numbers : List
   count = ap (λ (l : List ℕ). nth l 2) (f .numbers) ∙ List·getD-append front _ 0 2 (omega (arith, f .twelve)) ∙ f .rows
 
   begins : nth paths (k * 11) ≡ y .start
-  begins = ap (λ (l : List ℕ). nth l (k * 11)) ps ∙ start-byte p (fair .lengths) (fair .ranges) k y at
+  begins = ap (λ (l : List ℕ). nth l (k * 11)) ps ∙ start-byte (path-rows p (fair .lengths) (fair .ranges)) k k y at (omega arith)
 
   ends : nth paths (k * 11 + 1) ≡ y .end
-  ends = ap (λ (l : List ℕ). nth l (k * 11 + 1)) ps ∙ end-byte p (fair .lengths) (fair .ranges) k y at
+  ends = ap (λ (l : List ℕ). nth l (k * 11 + 1)) ps ∙ end-byte (path-rows p (fair .lengths) (fair .ranges)) k k y at (omega arith)
 
   initiator : isInitiator p (nth paths (k * 11)) ≡ true
   unfolding isInitiator
@@ -116,5 +116,5 @@ module _ (p : Plan) (fair : Fair p) (x : Times) (front rows paths numbers : List
   unfolding costOf routers
   stored routers′ v is value =
       let row : atPlace r (initiators p) ≡ some (y .start) = row-place p (fair .lists .paths .eight) rows rs (nth numbers 2) count (nth paths (k * 11)) r found within ∙ ap some begins in
-      let over : routers′ ≡ length (y .links) - 1 = is ∙ ap (λ (n : ℕ). n - 1) (ap (λ (l : List ℕ). nth l (k * 11 + 2)) ps ∙ count-byte p (fair .lengths) (fair .ranges) k y at) in
-      rw ends (more p fair k y at x front numbers r v f row some-row (rw ends at some-target) (rw over at value))
+      let over : routers′ ≡ length (y .links) - 1 = is ∙ ap (λ (n : ℕ). n - 1) (ap (λ (l : List ℕ). nth l (k * 11 + 2)) ps ∙ count-byte (path-rows p (fair .lengths) (fair .ranges)) k k y at (omega arith)) in
+      rw ends (more p fair k y at x front numbers r v f row some-row (rw ends at some-target) ((rw over at value) ∙ ap (λ (h : Route). x .rate * fixedTime x (routers y) (routers h)) (sym (same-way (p .replies) y (f .no-replies)))))

@@ -1,7 +1,7 @@
 -- What `numbers` tell of how long a transaction may be is what the plan says.
 use mathlib.Core.Path.{_≡_, refl, sym, ap, _∙_, fun-ext}
 use mathlib.Core.List.{List, [], _∷_, _++_, List·Memᴰ·head}
-use mathlib.Core.Option.{Option, none, some}
+use mathlib.Core.Option.{Option, none, some, Option·getD}
 use mathlib.Core.Bool.{Bool, true, false, not, _&&_}
 use Prim.Native.Nat.{ℕ, _+_, _*_, _/_, _%_, _≤_, _<_}
 use native.Mathlib.Omega.{arith}
@@ -19,53 +19,79 @@ use Rattle.lists.specs.Cells.{cells}
 use Rattle.lists.specs.laws.Cells.{cell-at}
 use Rattle.lists.specs.laws.Search.{find-some}
 use Rattle.lists.specs.laws.Found.{find-one, read-shuffled}
+use Rattle.lists.specs.laws.More.{find-same}
 use Rattle.lists.specs.laws.Shuffle.{eq-respects}
 use Rattle.lists.specs.laws.Order.{one-pair}
 use Rattle.rules_plan.specs.Plan.{nth, Route, Times, Plan}
-use Rattle.rules_plan.specs.Meaning.{leadsFrom, initiators, routers, fitsIn, leastSpan, timesOf}
+use Rattle.rules_plan.specs.Meaning.{leadsFrom, initiators, homeOf, routers, fitsIn, leastSpan, timesOf}
 use Rattle.rules_plan.specs.Good.{samePathEnds}
 use Rattle.rules_plan.specs.laws.Sound.{Sound}
 use Rattle.rules_plan.specs.laws.Sheets.{TimesRange, fits-product, fixed-some}
 use Rattle.rules_plan.specs.laws.Spans.{fits-untimed, fits-timed}
+use Rattle.rules_plan.specs.laws.Same.{home-shuffled}
+use Rattle.rules_plan.specs.Sheet.{fixedTime}
 use Rattle.memory_plan.specs.Memory.{ofRow, costOf, costsAmong, costsOf, numbersWith, rateIn, slotIn, costIn}
 use Rattle.memory_plan.specs.Spans.{fitsInWords, leastInWords}
 use Rattle.memory_plan.specs.laws.InRows.{of-row}
-use Rattle.memory_plan.specs.laws.RowCells.{no-cells, cell-more}
+use Rattle.memory_plan.specs.laws.RowCells.{no-cells, cell-set, cell-more}
 
 -- the cell of a row and a target
-pub costs-at : (p : Plan) (x : Times) (xs : List Route) (r i t : ℕ) → r < 8 → t < 64 → atPlace r (initiators p) ≡ some i
-    → nth (costsAmong p x xs) (r * 64 + t) ≡ costOf x (find (leadsFrom i t) xs)
+pub costs-at : (p : Plan) (x : Times) (ys xs : List Route) (r i t : ℕ) → r < 8 → t < 64 → atPlace r (initiators p) ≡ some i
+    → nth (costsAmong p x ys xs) (r * 64 + t) ≡ costOf x ys (find (leadsFrom i t) xs)
 unfolding costsAmong
-costs-at p x xs r i t row low at =
+costs-at p x ys xs r i t row low at =
     let a : (r * 64 + t) / 64 ≡ r = omega arith in
     let b : (r * 64 + t) % 64 ≡ t = omega arith in
-    cell-at 512 (λ (n : ℕ). ofRow p (n / 64) (λ (j : ℕ). costOf x (find (leadsFrom j (n % 64)) xs))) (r * 64 + t) 0 (omega arith)
+    cell-at 512 (λ (n : ℕ). ofRow p (n / 64) (λ (j : ℕ). costOf x ys (find (leadsFrom j (n % 64)) xs))) (r * 64 + t) 0 (omega arith)
     ∙ rw (a, b) (of-row p r i _ at)
 
 -- without times, and without paths, they are all 0
-pub no-costs : (p : Plan) (xs : List Route) → p .times ≡ [] → costsAmong p (timesOf (p .times)) xs ≡ cells 512 (λ (n : ℕ). 0)
+pub no-costs : (p : Plan) (ys xs : List Route) → p .times ≡ [] → costsAmong p (timesOf (p .times)) ys xs ≡ cells 512 (λ (n : ℕ). 0)
 unfolding costsAmong costOf timesOf
-no-costs p xs e = ap (λ (ys : List Times). costsAmong p (timesOf ys) xs) e ∙ no-cells p (λ i t. costOf (timesOf []) (find (leadsFrom i t) xs)) (λ i t. free (find (leadsFrom i t) xs))
+no-costs p ys xs e = ap (λ (zs : List Times). costsAmong p (timesOf zs) ys xs) e ∙ no-cells p (λ i t. costOf (timesOf []) ys (find (leadsFrom i t) xs)) (λ i t. free (find (leadsFrom i t) xs))
   where
-    free : (o : Option Route) → costOf (timesOf []) o ≡ 0
+    free : (o : Option Route) → costOf (timesOf []) ys o ≡ 0
     free none = refl
     free (some r) = omega arith
 
-pub costs-none : (p : Plan) (x : Times) → costsAmong p x [] ≡ cells 512 (λ (n : ℕ). 0)
+pub costs-none : (p : Plan) (x : Times) (ys : List Route) → costsAmong p x ys [] ≡ cells 512 (λ (n : ℕ). 0)
 unfolding costsAmong costOf find
-costs-none p x = no-cells p (λ i t. costOf x (find (leadsFrom i t) [])) (λ i t. refl)
+costs-none p x ys = no-cells p (λ i t. costOf x ys (find (leadsFrom i t) [])) (λ i t. refl)
 
--- the order of the paths does not matter, where none is there twice
-pub costs-shuffled : (p : Plan) (x : Times) {xs ys : List Route} → Shuffled _≡_ xs ys → repeats samePathEnds xs ≡ false → costsAmong p x xs ≡ costsAmong p x ys
-unfolding costsAmong leadsFrom samePathEnds
-costs-shuffled p x {xs} s u = ap (cells 512) (fun-ext λ n. ap (ofRow p (n / 64)) (fun-ext λ i.
-    read-shuffled (leadsFrom i (n % 64)) (eq-respects _) (costOf x) (eq-respects _) (λ w. refl) s (one-pair (λ w. w .start) (λ w. w .end) xs u i (n % 64))))
+-- the order of the replies and of the paths does not matter, where none is there twice
+pub costs-shuffled : (p : Plan) (x : Times) {ys zs xs ws : List Route} → Shuffled _≡_ ys zs → repeats samePathEnds ys ≡ false → Shuffled _≡_ xs ws → repeats samePathEnds xs ≡ false
+    → costsAmong p x ys xs ≡ costsAmong p x zs ws
+unfolding costsAmong costOf leadsFrom samePathEnds
+costs-shuffled p x {ys} {zs} {xs} {ws} s u t v = ap (cells 512) (fun-ext λ n. ap (ofRow p (n / 64)) (fun-ext λ i.
+    read-shuffled (leadsFrom i (n % 64)) (eq-respects _) (costOf x ys) (eq-respects _) (λ w. refl) t (one-pair (λ w. w .start) (λ w. w .end) xs v i (n % 64)) ∙ home (find (leadsFrom i (n % 64)) ws)))
+  where
+    home : (o : Option Route) → costOf x ys o ≡ costOf x zs o
+    home none = refl
+    home (some r) = ap (λ h. x .rate * fixedTime x (routers r) (routers h)) (home-shuffled s u r)
 
 -- one path more: its cell is stored
-pub costs-more : (p : Plan) (x : Times) (xs : List Route) (y : Route) (r : ℕ) → atPlace r (initiators p) ≡ some (y .start) → r < 8 → y .end < 64 → any (leadsFrom (y .start) (y .end)) xs ≡ false
-    → set (costsAmong p x xs) (r * 64 + y .end) (costOf x (some y)) ≡ costsAmong p x (xs ++ (y ∷ []))
+pub costs-more : (p : Plan) (x : Times) (ys xs : List Route) (y : Route) (r : ℕ) → atPlace r (initiators p) ≡ some (y .start) → r < 8 → y .end < 64 → any (leadsFrom (y .start) (y .end)) xs ≡ false
+    → set (costsAmong p x ys xs) (r * 64 + y .end) (costOf x ys (some y)) ≡ costsAmong p x ys (xs ++ (y ∷ []))
 unfolding costsAmong leadsFrom
-costs-more p x xs y r row short below free = cell-more (costOf x) (λ w. w .start) (λ w. w .end) p r xs y row short below free
+costs-more p x ys xs y r row short below free = cell-more (costOf x ys) (λ w. w .start) (λ w. w .end) p r xs y row short below free
+
+-- one reply more: the cell of its path is stored anew
+pub costs-home : (p : Plan) (x : Times) (ys xs : List Route) (y : Route) (r : ℕ) → atPlace r (initiators p) ≡ some (y .end) → r < 8 → y .start < 64
+    → set (costsAmong p x ys xs) (r * 64 + y .start) (costOf x (ys ++ (y ∷ [])) (find (leadsFrom (y .end) (y .start)) xs)) ≡ costsAmong p x (ys ++ (y ∷ [])) xs
+unfolding costsAmong costOf leadsFrom homeOf
+costs-home p x ys xs y r row short below = cell-set p (λ i t. costOf x ys (find (leadsFrom i t) xs)) (λ i t. costOf x (ys ++ (y ∷ [])) (find (leadsFrom i t) xs)) r (y .end) (y .start) row short below
+    (λ i t s. stays i t s (find (leadsFrom i t) xs) refl)
+  where
+    stays : (i t : ℕ) → ((i ≡ y .end) × (t ≡ y .start) → ⊥) → (o : Option Route) → find (leadsFrom i t) xs ≡ o → costOf x ys o ≡ costOf x (ys ++ (y ∷ [])) o
+    stays i t s none f = refl
+    stays i t s (some z) f = ap (λ o. x .rate * fixedTime x (routers z) (routers (Option·getD o z))) (sym (find-same (leadsFrom (z .end) (z .start)) ys y (apart (leadsFrom (z .end) (z .start) y) refl)))
+      where
+        apart : (b : Bool) → leadsFrom (z .end) (z .start) y ≡ b → leadsFrom (z .end) (z .start) y ≡ false
+        apart false e = e
+        apart true e =
+            let (c, d) = both-true (eqb (z .end) (y .start)) (eqb (z .start) (y .end)) e in
+            let (g, h) = both-true (eqb i (z .start)) (eqb t (z .end)) ((find-some (leadsFrom i t) xs z f) .1) in
+            absurd (s (eqb-true i (z .start) g ∙ eqb-true (z .start) (y .end) d, eqb-true t (z .end) h ∙ eqb-true (z .end) (y .start) c))
 
 module _ (p : Plan) (size : ℕ) (numbers : List ℕ) (is : numbers ≡ numbersWith size p) where
   pub rate-told : rateIn numbers ≡ (timesOf (p .times)) .rate
@@ -81,11 +107,11 @@ module _ (p : Plan) (size : ℕ) (numbers : List ℕ) (is : numbers ≡ numbersW
   costs-behind = ap (drop 12) is
 
   module _ (ok : Sound p) (r i t : ℕ) (at : atPlace r (initiators p) ≡ some i) (low : t < 64) where
-    pub cost-told : costIn numbers r t ≡ costOf (timesOf (p .times)) (find (leadsFrom i t) (p .paths))
+    pub cost-told : costIn numbers r t ≡ costOf (timesOf (p .times)) (p .replies) (find (leadsFrom i t) (p .paths))
     cost-told =
         let place : 12 + r * 64 + t ≡ 12 + (r * 64 + t) = omega arith in
         ap (nth numbers) place ∙ sym (getD-drop 12 numbers (r * 64 + t) 0) ∙ ap (λ l. nth l (r * 64 + t)) costs-behind
-        ∙ costs-at p _ (p .paths) r i t (omega (arith, at-within (initiators p) r i at, ok .eight)) low at
+        ∙ costs-at p _ (p .replies) (p .paths) r i t (omega (arith, at-within (initiators p) r i at, ok .eight)) low at
 
     module _ (x : Times) (xs : List Times) (timed : p .times ≡ x ∷ xs) (n k : ℕ) where
       range : TimesRange x
@@ -102,9 +128,9 @@ module _ (p : Plan) (size : ℕ) (numbers : List ℕ) (is : numbers ≡ numbersW
       unfolding timesOf
       slot-is = rw timed at slot-told
 
-      cost-is : (o : Option Route) → find (leadsFrom i t) (p .paths) ≡ o → costIn numbers r t ≡ costOf x o
+      cost-is : (o : Option Route) → find (leadsFrom i t) (p .paths) ≡ o → costIn numbers r t ≡ costOf x (p .replies) o
       unfolding timesOf
-      cost-is o f = (rw timed at cost-told) ∙ ap (costOf x) f
+      cost-is o f = (rw timed at cost-told) ∙ ap (costOf x (p .replies)) f
 
       -- the test in words, in a plan that carries its times
       words : Bool
@@ -130,7 +156,7 @@ module _ (p : Plan) (size : ℕ) (numbers : List ℕ) (is : numbers ≡ numbersW
                   has = m;
                   from = eqb-true i (y .start) from;
                   to = eqb-true t (y .end) to;
-                  in-time = (fits-product x (routers y) (routers y) n k some-rate) .1 (rw (cost-is (some y) f, slot-is) at c);
+                  in-time = (fits-product x (routers y) (routers (homeOf (p .replies) y)) n k some-rate) .1 (rw (cost-is (some y) f, slot-is) at c);
                 },
               )
 
@@ -142,8 +168,8 @@ module _ (p : Plan) (size : ℕ) (numbers : List ℕ) (is : numbers ≡ numbersW
           let own : leadsFrom i t y ≡ true = true-both (eq-eqb i (y .start) (z .from)) (eq-eqb t (y .end) (z .to)) in
           let f = find-one (leadsFrom i t) (p .paths) y (one-pair (λ w. w .start) (λ w. w .end) (p .paths) (ok .one-path) i t) (z .has) own in
           let c = cost-is (some y) f in
-          let some-cost : eqb (costIn numbers r t) 0 ≡ false = ne-eqb (costIn numbers r t) 0 (λ e. omega (arith, fixed-some x (routers y) (routers y) some-rate, c)) in
-          true-both (true-both (le-leb n 4_096 short) (rw some-cost)) (le-leb (10_000 * (n + 1) + costIn numbers r t) (k * slotIn numbers) (rw (c, slot-is) ((fits-product x (routers y) (routers y) n k some-rate) .0 (z .in-time))))
+          let some-cost : eqb (costIn numbers r t) 0 ≡ false = ne-eqb (costIn numbers r t) 0 (λ e. omega (arith, fixed-some x (routers y) (routers (homeOf (p .replies) y)) some-rate, c)) in
+          true-both (true-both (le-leb n 4_096 short) (rw some-cost)) (le-leb (10_000 * (n + 1) + costIn numbers r t) (k * slotIn numbers) (rw (c, slot-is) ((fits-product x (routers y) (routers (homeOf (p .replies) y)) n k some-rate) .0 (z .in-time))))
 
     pub fits-told : (n k : ℕ) → fitsInWords numbers r t n k ≡ fitsIn p i t n k
     unfolding fitsInWords timesOf words

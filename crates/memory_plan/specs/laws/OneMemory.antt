@@ -4,15 +4,17 @@ use mathlib.Core.Logic.{_↔_}
 use mathlib.Core.List.{List, map, map-id, List·Memᴰ}
 use Prim.Native.Nat.{ℕ, _<_}
 use native.Mathlib.Omega.{arith}
+use Rattle.lists.specs.Search.{keep}
 use Rattle.lists.specs.Order.{inOrder}
 use Rattle.lists.specs.laws.OneOrder.{one-order, one-orders}
-use Rattle.rules_plan.specs.Plan.{Device, Link, Entry, Times, Plan}
+use Rattle.rules_plan.specs.Plan.{Device, Link, Route, Entry, Times, Plan}
 use Rattle.rules_plan.specs.Meaning.{initiators}
 use Rattle.rules_plan.specs.Canon.{smallFirst, withRising, canonical, SamePlan}
 use Rattle.rules_plan.specs.Good.{Good, sameDeviceNumber, sameLinkNumber, sameEntryPlace}
 use Rattle.rules_plan.specs.laws.Canonical.{same-plans}
 use Rattle.rules_plan.specs.laws.GoodSound.{good-sound}
-use Rattle.memory_plan.specs.Memory.{pathsInOrder, Holds}
+use Rattle.memory_plan.specs.Memory.{pathsInOrder, turned, repliesInOrder, Holds}
+use Rattle.memory_plan.specs.laws.Replies.{isGiven, replies-told}
 use Rattle.memory_plan.specs.laws.SameMemory.{SameArrays, same-memory}
 use Rattle.memory_plan.specs.laws.ToldPlan.{told-devices, told-links, told-paths, told-initiators, told-timings, told-times}
 use Rattle.memory_plan.specs.laws.ToldEntries.{told-entries}
@@ -23,7 +25,7 @@ some-rate p g x m = omega (arith, ((good-sound p g) .times x m) .some-rate)
 -- equal arrays: one canonical plan
 pub one-canonical : (p q : Plan) → Good p → Good q → SameArrays p q → canonical p ≡ canonical q
 unfolding canonical sameDeviceNumber sameLinkNumber sameEntryPlace smallFirst withRising pathsInOrder
-one-canonical p q g h s = rw (devices, links, told-paths p q (s .numbers) g h (s .paths), entries, told-timings p q (s .numbers) (g .timing) (h .timing), told-times p q (s .numbers) (g .times) (h .times) (some-rate p g) (some-rate q h))
+one-canonical p q g h s = rw (devices, links, rows-told .0, replies, entries, told-timings p q (s .numbers) (g .timing) (h .timing), told-times p q (s .numbers) (g .times) (h .times) (some-rate p g) (some-rate q h))
   where
     devices : inOrder (λ (d : Device). d .num) (p .devices) ≡ inOrder (λ (d : Device). d .num) (q .devices)
     devices = sym (map-id _) ∙ one-order (λ d. d) (p .devices) (q .devices) (told-devices p q (s .sets) (g .ranges)) (told-devices q p (sym (s .sets)) (h .ranges))
@@ -32,6 +34,13 @@ one-canonical p q g h s = rw (devices, links, told-paths p q (s .numbers) g h (s
     links : map smallFirst (inOrder (λ (l : Link). l .num) (p .links)) ≡ map smallFirst (inOrder (λ (l : Link). l .num) (q .links))
     links = one-order smallFirst (p .links) (q .links) (told-links p q (s .sets) (s .ends) (g .ranges) (g .links)) (told-links q p (sym (s .sets)) (sym (s .ends)) (h .ranges) (h .links))
         (λ l. l .num) (λ l m e. ap (λ z. z .num) e) (g .links) (h .links)
+
+    rows-told : (pathsInOrder p ≡ pathsInOrder q) × (repliesInOrder p ≡ repliesInOrder q)
+    rows-told = told-paths p q (s .numbers) g h (s .paths)
+
+    replies : inOrder (λ (y : Route). y .end) (inOrder (λ (y : Route). y .start) (p .replies)) ≡ inOrder (λ (y : Route). y .end) (inOrder (λ (y : Route). y .start) (q .replies))
+    replies = replies-told p (g .lengths) (g .paths) (g .replies) (g .reached) ∙ ap (λ (xs : List Route). map turned (keep isGiven xs)) (rows-told .1)
+        ∙ sym (replies-told q (h .lengths) (h .paths) (h .replies) (h .reached))
 
     rows : initiators p ≡ initiators q
     rows = told-initiators p q (s .numbers) (s .rows)

@@ -31,6 +31,27 @@ no-cells p f none-said = cells-same 512 _ _ 0 (λ n h. here (n / 64) (n % 64))
         go none e = of-no-row p r _ e
         go (some i) e = of-row p r i _ e ∙ none-said i v
 
+-- what is said differs in the cell of one row and one number only: that cell is stored anew
+pub cell-set : (p : Plan) (f g : ℕ → ℕ → ℕ) (r i v : ℕ) → atPlace r (initiators p) ≡ some i → r < 8 → v < 64 → ((j w : ℕ) → ((j ≡ i) × (w ≡ v) → ⊥) → f j w ≡ g j w)
+    → set (cells 512 (λ (n : ℕ). ofRow p (n / 64) (λ (j : ℕ). f j (n % 64)))) (r * 64 + v) (g i v) ≡ cells 512 (λ (n : ℕ). ofRow p (n / 64) (λ (j : ℕ). g j (n % 64)))
+cell-set p f g r i v row short below same = cells-set 512 _ _ 0 (r * 64 + v) (g i v) (omega arith) here (λ n _ s. other n s)
+  where
+    here : g i v ≡ ofRow p ((r * 64 + v) / 64) (λ (j : ℕ). g j ((r * 64 + v) % 64))
+    here =
+        let e : (r * 64 + v) / 64 ≡ r = omega arith in
+        let h : (r * 64 + v) % 64 ≡ v = omega arith in
+        rw (e, h) (sym (of-row p r i _ row))
+
+    other : (n : ℕ) → (n ≡ r * 64 + v → ⊥) → ofRow p (n / 64) (λ (j : ℕ). f j (n % 64)) ≡ ofRow p (n / 64) (λ (j : ℕ). g j (n % 64))
+    other n s = go (atPlace (n / 64) (initiators p)) refl
+      where
+        go : (o : Option ℕ) → atPlace (n / 64) (initiators p) ≡ o → ofRow p (n / 64) (λ (j : ℕ). f j (n % 64)) ≡ ofRow p (n / 64) (λ (j : ℕ). g j (n % 64))
+        go none h = of-no-row p (n / 64) _ h ∙ sym (of-no-row p (n / 64) _ h)
+        go (some j) h =
+            of-row p (n / 64) j _ h
+            ∙ same j (n % 64) (λ e. s (omega (arith, row-once p (n / 64) r i (h ∙ ap some (e .0)) row, e .1)))
+            ∙ sym (of-row p (n / 64) j _ h)
+
 module _ {A : Type 0} (g : Option A → ℕ) (a b : A → ℕ) (p : Plan) where
   abbrev is : ℕ → ℕ → A → Bool
   is i v y = eqb i (a y) && eqb v (b y)
@@ -40,30 +61,13 @@ module _ {A : Type 0} (g : Option A → ℕ) (a b : A → ℕ) (p : Plan) where
 
   module _ (r : ℕ) (xs : List A) (y : A) (row : atPlace r (initiators p) ≡ some (a y)) (short : r < 8) (below : b y < 64)
       (free : any (λ (x : A). eqb (a y) (a x) && eqb (b y) (b x)) xs ≡ false) where
-    new-cell : g (some y) ≡ ofRow p ((r * 64 + b y) / 64) (λ (i : ℕ). g (find (is i ((r * 64 + b y) % 64)) (xs ++ (y ∷ []))))
-    new-cell =
-        let e : (r * 64 + b y) / 64 ≡ r = omega arith in
-        let f : (r * 64 + b y) % 64 ≡ b y = omega arith in
-        let here = find-more (is (a y) (b y)) xs y free (true-both (eq-eqb (a y) (a y) refl) (eq-eqb (b y) (b y) refl)) in
-        rw (e, f) (sym (of-row p r (a y) _ row ∙ ap g here))
-
     -- in another cell there is another initiator or another number
-    other-cell : (n : ℕ) → (n ≡ r * 64 + b y → ⊥) → ofRow p (n / 64) (λ (i : ℕ). g (find (is i (n % 64)) xs)) ≡ ofRow p (n / 64) (λ (i : ℕ). g (find (is i (n % 64)) (xs ++ (y ∷ []))))
-    other-cell n s = go (atPlace (n / 64) (initiators p)) refl
-      where
-        apart : (i : ℕ) → atPlace (n / 64) (initiators p) ≡ some i → is i (n % 64) y ≡ true → ⊥
-        apart i h t =
-            let (c, d) = both-true (eqb i (a y)) (eqb (n % 64) (b y)) t in
-            s (omega (arith, row-once p (n / 64) r (a y) (h ∙ ap some (eqb-true i (a y) c)) row, eqb-true (n % 64) (b y) d))
-
-        kept : (i : ℕ) → atPlace (n / 64) (initiators p) ≡ some i → (t : Bool) → is i (n % 64) y ≡ t → find (is i (n % 64)) xs ≡ find (is i (n % 64)) (xs ++ (y ∷ []))
-        kept i h true t = absurd (apart i h t)
-        kept i h false t = sym (find-same (is i (n % 64)) xs y t)
-
-        go : (o : Option ℕ) → atPlace (n / 64) (initiators p) ≡ o
-            → ofRow p (n / 64) (λ (i : ℕ). g (find (is i (n % 64)) xs)) ≡ ofRow p (n / 64) (λ (i : ℕ). g (find (is i (n % 64)) (xs ++ (y ∷ []))))
-        go none h = of-no-row p (n / 64) _ h ∙ sym (of-no-row p (n / 64) _ h)
-        go (some i) h = of-row p (n / 64) i _ h ∙ ap g (kept i h (is i (n % 64) y) refl) ∙ sym (of-row p (n / 64) i _ h)
+    kept : (i v : ℕ) → ((i ≡ a y) × (v ≡ b y) → ⊥) → (t : Bool) → is i v y ≡ t → find (is i v) xs ≡ find (is i v) (xs ++ (y ∷ []))
+    kept i v s true t = let (c, d) = both-true (eqb i (a y)) (eqb v (b y)) t in absurd (s (eqb-true i (a y) c, eqb-true v (b y) d))
+    kept i v s false t = sym (find-same (is i v) xs y t)
 
     pub cell-more : set (rowCells xs) (r * 64 + b y) (g (some y)) ≡ rowCells (xs ++ (y ∷ []))
-    cell-more = cells-set 512 _ _ 0 (r * 64 + b y) (g (some y)) (omega arith) new-cell (λ n _ s. other-cell n s)
+    cell-more =
+        let here = find-more (is (a y) (b y)) xs y free (true-both (eq-eqb (a y) (a y) refl) (eq-eqb (b y) (b y) refl)) in
+        ap (set (rowCells xs) (r * 64 + b y)) (ap g (sym here))
+        ∙ cell-set p (λ i v. g (find (is i v) xs)) (λ i v. g (find (is i v) (xs ++ (y ∷ [])))) r (a y) (b y) row short below (λ i v s. ap g (kept i v s (is i v y) refl))

@@ -1,7 +1,7 @@
 -- Plans that differ in their orders only have equal memory.
 use mathlib.Core.Path.{_≡_, refl, ap, ap₂, _∙_, fun-ext}
 use mathlib.Core.Logic.{_↔_}
-use mathlib.Core.List.{List, flatMap}
+use mathlib.Core.List.{List, _++_, map}
 use mathlib.Core.Option.{Option, none, some}
 use mathlib.Core.Bool.{false, cond}
 use Prim.Native.Nat.{ℕ, _/_, _%_, min, max}
@@ -15,13 +15,13 @@ use Rattle.lists.specs.laws.Order.{one-key, one-pair, orders-same}
 use Rattle.lists.specs.laws.Found.{read-shuffled}
 use Rattle.bitsets.specs.Set.{packed}
 use Rattle.rules_plan.specs.Plan.{Link, Route, Entry, Times, Plan}
-use Rattle.rules_plan.specs.Meaning.{standsAt, entryAt, timesOf}
+use Rattle.rules_plan.specs.Meaning.{leadsFrom, standsAt, entryAt, timesOf}
 use Rattle.rules_plan.specs.Canon.{canonical, SameLink, SameEntry, SamePlan}
 use Rattle.rules_plan.specs.Good.{Good, sameLinkNumber, samePathEnds, sameEntryPlace}
 use Rattle.rules_plan.specs.laws.Same.{link-refl, entry-refl, plan-sym, same-ends, same-hasKind, same-isLink, same-hasPath, same-initiators, same-standsAt}
 use Rattle.rules_plan.specs.laws.SameItems.{same-length, good-same}
 use Rattle.rules_plan.specs.laws.Canonical.{same-canonical}
-use Rattle.memory_plan.specs.Memory.{setsOf, endOf, endsOf, rowsOf, ofRow, reachOf, pathRow, pathsInOrder, pathsOf, spanOf, spansOf, aimOf, aimsOf, costsAmong, costsOf, numbersWith, numbersOf, Holds}
+use Rattle.memory_plan.specs.Memory.{setsOf, endOf, endsOf, rowsOf, ofRow, reachOf, pathsInOrder, turned, noRoute, replyOf, repliesInOrder, placesFor, pathsOf, spanOf, spansOf, aimOf, aimsOf, costsAmong, costsOf, numbersWith, numbersOf, Holds}
 use Rattle.memory_plan.specs.laws.Costs.{costs-shuffled}
 
 -- a link's ends in order, whichever stands first
@@ -66,9 +66,15 @@ module _ {p q : Plan} (s : SamePlan p q) where
   unfolding pathsInOrder samePathEnds
   same-pathsInOrder u = orders-same (s .paths) (λ x. x .start) (λ x. x .end) u
 
-  pub same-paths : repeats samePathEnds (p .paths) ≡ false → pathsOf p ≡ pathsOf q
-  unfolding pathsOf
-  same-paths u = ap (λ (xs : List Route). padded 1408 0 (flatMap pathRow xs)) (same-pathsInOrder u)
+  same-replyOf : repeats samePathEnds (p .replies) ≡ false → (x : Route) → replyOf (p .replies) x ≡ replyOf (q .replies) x
+  unfolding replyOf leadsFrom samePathEnds
+  same-replyOf v x =
+      read-shuffled (leadsFrom (x .end) (x .start)) (eq-respects _) (λ (o : Option Route). elim o [ none ↦ noRoute | some y ↦ turned y ]) (eq-respects _) (λ y. refl) (s .replies)
+      (one-pair (λ y. y .start) (λ y. y .end) (p .replies) v (x .end) (x .start))
+
+  pub same-paths : repeats samePathEnds (p .paths) ≡ false → repeats samePathEnds (p .replies) ≡ false → pathsOf p ≡ pathsOf q
+  unfolding pathsOf repliesInOrder
+  same-paths u v = ap₂ (λ (f : Route → Route) (xs : List Route). placesFor xs ++ placesFor (map f xs)) (fun-ext (same-replyOf v)) (same-pathsInOrder u)
 
   -- where no entry is there twice
   module _ (u : repeats sameEntryPlace (p .entries) ≡ false) where
@@ -84,16 +90,16 @@ module _ {p q : Plan} (s : SamePlan p q) where
     unfolding aimsOf
     same-aims = ap (cells 512) (fun-ext λ n. same-ofRow (n / 64) _ _ (λ i. same-entryAt aimOf same-aimOf i (n % 64)))
 
-  -- where no path is there twice
-  pub same-costs : repeats samePathEnds (p .paths) ≡ false → costsOf p ≡ costsOf q
+  -- where no path and no reply is there twice
+  pub same-costs : repeats samePathEnds (p .paths) ≡ false → repeats samePathEnds (p .replies) ≡ false → costsOf p ≡ costsOf q
   unfolding costsAmong
-  same-costs u =
-      ap (λ (xs : List Times). costsAmong p (timesOf xs) (p .paths)) (s .times) ∙ costs-shuffled p (timesOf (q .times)) (s .paths) u
+  same-costs u v =
+      ap (λ (xs : List Times). costsAmong p (timesOf xs) (p .replies) (p .paths)) (s .times) ∙ costs-shuffled p (timesOf (q .times)) (s .replies) v (s .paths) u
       ∙ ap (cells 512) (fun-ext λ n. same-ofRow (n / 64) _ _ (λ i. refl))
 
-  pub same-numbers : repeats samePathEnds (p .paths) ≡ false → numbersOf p ≡ numbersOf q
+  pub same-numbers : repeats samePathEnds (p .paths) ≡ false → repeats samePathEnds (p .replies) ≡ false → numbersOf p ≡ numbersOf q
   unfolding numbersWith
-  same-numbers u = rw (same-costs u, same-length s, same-initiators s, shuffled-length (s .paths), shuffled-length (s .entries), s .timings, s .times)
+  same-numbers u v = rw (same-costs u v, same-length s, same-initiators s, shuffled-length (s .paths), shuffled-length (s .entries), s .timings, s .times)
 
 -- the eight arrays of two plans are equal
 pub record SameArrays (p q : Plan) : Type 0 where
@@ -112,10 +118,10 @@ same-memory s g = record {
   ends = same-ends-of s (g .links);
   rows = same-rows s;
   reach = same-reach s;
-  paths = same-paths s (g .paths);
+  paths = same-paths s (g .paths) (g .replies);
   spans = same-spans s (g .entries);
   aims = same-aims s (g .entries);
-  numbers = same-numbers s (g .paths);
+  numbers = same-numbers s (g .paths) (g .replies);
 }
 
 -- what holds a plan holds each plan that is the same

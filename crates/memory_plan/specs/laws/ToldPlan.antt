@@ -15,7 +15,7 @@ use Rattle.lists.specs.laws.Bools.{both-true, true-both}
 use Rattle.lists.specs.laws.Search.{any-elim, any-intro, find-some, find-has}
 use Rattle.lists.specs.laws.Order.{one-key}
 use Rattle.lists.specs.laws.Found.{find-one}
-use Rattle.lists.specs.laws.Told.{cells-told, padded-told, even-length, parts-told}
+use Rattle.lists.specs.laws.Told.{cells-told, append-told, padded-told, even-length, parts-told}
 use Rattle.lists.specs.laws.OneOrder.{Among}
 use Rattle.bitsets.specs.Set.{member, packed}
 use Rattle.bitsets.specs.Packed.{member-packed-below}
@@ -25,8 +25,8 @@ use Rattle.rules_plan.specs.Judge.{outOfRange}
 use Rattle.rules_plan.specs.Canon.{smallFirst}
 use Rattle.rules_plan.specs.Good.{Good, Each, sameLinkNumber}
 use Rattle.rules_plan.specs.laws.InRange.{device-ranged, link-ranged}
-use Rattle.memory_plan.specs.laws.PathRows.{row-length, path-count, links-short}
-use Rattle.memory_plan.specs.Memory.{setsOf, endOf, endsOf, rowsOf, pathRow, pathsInOrder, pathsOf, numbersWith, numbersOf}
+use Rattle.memory_plan.specs.laws.PathRows.{row-length, Short, places-length, path-count, paths-short, replies-short, reply-count}
+use Rattle.memory_plan.specs.Memory.{setsOf, endOf, endsOf, rowsOf, pathRow, pathsInOrder, repliesInOrder, placesFor, pathsOf, numbersWith, numbersOf}
 
 -- a word tells the test that it was made of
 pub packed-told : (t u : ℕ → Bool) → packed t ≡ packed u → (k : ℕ) → k < 64 → t k ≡ u k
@@ -97,6 +97,13 @@ row-told x y e =
     let f = padded-told 8 0 (x .links) (y .links) l d in
     λ i. record { start = a i; end = b i; links = f i }
 
+-- a list of as many rows tells its routes
+places-told : (xs ys : List Route) → Short xs → Short ys → length xs ≡ length ys → placesFor xs ≡ placesFor ys → xs ≡ ys
+unfolding placesFor
+places-told xs ys a b l e =
+    let same = even-length pathRow 11 _ row-length xs a ∙ ap (λ n. 11 * n) l ∙ sym (even-length pathRow 11 _ row-length ys b) in
+    parts-told pathRow 11 _ row-length row-told xs ys a b l (padded-told 1408 0 _ _ same e)
+
 -- `numbers`
 module _ (p q : Plan) (e : numbersOf p ≡ numbersOf q) where
   number-told : (k : ℕ) → nth (numbersOf p) k ≡ nth (numbersOf q) k
@@ -135,9 +142,17 @@ module _ (p q : Plan) (e : numbersOf p ≡ numbersOf q) where
   unfolding numbersWith rowsOf
   told-initiators f = padded-told 8 0 (initiators p) (initiators q) (number-told 2) f
 
-  pub told-paths : Good p → Good q → pathsOf p ≡ pathsOf q → pathsInOrder p ≡ pathsInOrder q
+  -- both lists of rows
+  pub told-paths : Good p → Good q → pathsOf p ≡ pathsOf q → (pathsInOrder p ≡ pathsInOrder q) × (repliesInOrder p ≡ repliesInOrder q)
   unfolding numbersWith pathsOf
   told-paths g h f =
-      let l : length (pathsInOrder p) ≡ length (pathsInOrder q) = path-count p (g .lengths) (g .ranges) ∙ number-told 3 ∙ sym (path-count q (h .lengths) (h .ranges)) in
-      let same = even-length pathRow 11 _ row-length (pathsInOrder p) (links-short p (g .lengths) (g .ranges)) ∙ ap (λ n. 11 * n) l ∙ sym (even-length pathRow 11 _ row-length (pathsInOrder q) (links-short q (h .lengths) (h .ranges))) in
-      parts-told pathRow 11 _ row-length row-told (pathsInOrder p) (pathsInOrder q) (links-short p (g .lengths) (g .ranges)) (links-short q (h .lengths) (h .ranges)) l (padded-told 1408 0 _ _ same f)
+      let l : length (p .paths) ≡ length (q .paths) = number-told 3 in
+      let m = path-count p (g .lengths) (g .ranges) in
+      let n = path-count q (h .lengths) (h .ranges) in
+      let a = paths-short p (g .lengths) (g .ranges) in
+      let b = paths-short q (h .lengths) (h .ranges) in
+      let long : length (placesFor (pathsInOrder p)) ≡ length (placesFor (pathsInOrder q)) = places-length _ a (omega (arith, m, g .most)) ∙ sym (places-length _ b (omega (arith, n, h .most))) in
+      let (c, d) = append-told (placesFor (pathsInOrder p)) (placesFor (pathsInOrder q)) _ _ long f in (
+        places-told _ _ a b (m ∙ l ∙ sym n) c,
+        places-told _ _ (replies-short p (g .lengths) (g .ranges)) (replies-short q (h .lengths) (h .ranges)) (reply-count p (g .lengths) (g .ranges) ∙ l ∙ sym (reply-count q (h .lengths) (h .ranges))) d,
+      )

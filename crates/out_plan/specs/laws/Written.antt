@@ -29,7 +29,7 @@ use Rattle.out_plan.specs.Out.{outBytes}
 use Rattle.out_items.specs.Out.{timingBytes, timesBytes}
 use Rattle.out_plan.specs.laws.Devices.{devices-out}
 use Rattle.out_plan.specs.laws.Links.{links-out}
-use Rattle.out_plan.specs.laws.Paths.{paths-out}
+use Rattle.out_plan.specs.laws.Paths.{paths-out, replies-out}
 use Rattle.out_plan.specs.laws.Entries.{entries-out}
 
 -- one timing
@@ -56,7 +56,7 @@ times-out size p good = go (p .times) refl (good .times)
 -- the bytes that the memory of a plan gives are those of the plan
 plan-out : (p : Plan) → Good p → canonical p ≡ p → outBytes (setsOf p) (endsOf p) (rowsOf p) (pathsOf p) (spansOf p) (aimsOf p) (numbersOf p) ≡ written p
 unfolding outBytes setsOf numbersWith written items
-plan-out p good e = rw (devices-out p good e, links-out p good e, paths-out p good e, entries-out p good e, timing-out (p .timings) (good .timing), times-out (length (written p)) p good) (simp flat-append)
+plan-out p good e = rw (devices-out p good e, links-out p good e, paths-out p good e, entries-out p good e, timing-out (p .timings) (good .timing), times-out (length (written p)) p good, replies-out p good e) (simp flat-append)
 
 module _ {sets ends rows reach paths spans aims numbers : List ℕ} where
   no-interval : PlanHeld none sets ends rows reach paths spans aims numbers → nth numbers 1 ≡ 0

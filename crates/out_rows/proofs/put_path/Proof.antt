@@ -19,13 +19,13 @@ wide-requires : tie.Need-wide-requires
 wide-requires c κs = search needs
 
 returns : tie.Need-returns
-returns c = let a = c .before .before .before .before .args in no-path (a .paths .now) (a .n) (a .out .now) (a .at) (sym (c .before .wide .ensures .0) ∙ c .if1 .taken)
+returns c = let a = c .before .before .before .before .args in no-path (a .paths .now) (a .tag) (a .n) (a .out .now) (a .at) (sym (c .before .wide .ensures .0) ∙ c .if1 .taken)
 
 returns-2 : tie.Need-returns-2
 returns-2 c =
     let w = c .before .before in
     let a = w .before .before .before .args in
-    no-row (a .paths .now) (a .n) (a .out .now) (a .at) (omega (arith, w .wide .ensures .0))
+    no-row (a .paths .now) (a .tag) (a .n) (a .out .now) (a .at) (omega (arith, w .wide .ensures .0))
 
 add-whole : tie.Need-add-whole
 add-whole c = search needs
@@ -35,14 +35,14 @@ returns-3 c =
     let s = c .before in
     let w = s .before .before in
     let a = w .before .before .before .args in
-    path-over (a .paths .now) (a .n) (w .wide .ensures .0) (s .before .if1 .left) (s .if2 .left) (search needs)
+    path-over (a .paths .now) (a .tag) (a .n) (w .wide .ensures .0) (s .before .if1 .left) (s .if2 .left) (search needs)
 
 returns-4 : tie.Need-returns-4
 returns-4 c =
     let s = c .before .before in
     let w = s .before .before in
     let a = w .before .before .before .args in
-    path-over (a .paths .now) (a .n) (w .wide .ensures .0) (s .before .if1 .left) (s .if2 .left) (search needs)
+    path-over (a .paths .now) (a .tag) (a .n) (w .wide .ensures .0) (s .before .if1 .left) (s .if2 .left) (search needs)
 
 element-copy-out-initiator : tie.Need-element-copy-out-initiator
 element-copy-out-initiator c = search needs
@@ -53,11 +53,11 @@ add-target c = search needs
 element-copy-out-target : tie.Need-element-copy-out-target
 element-copy-out-target c = search needs
 
-cast-t16 : tie.Need-cast-t16
-cast-t16 c = search needs
+cast-t17 : tie.Need-cast-t17
+cast-t17 c = search needs
 
-add-t22 : tie.Need-add-t22
-add-t22 c = search needs
+add-t23 : tie.Need-add-t23
+add-t23 c = search needs
 
 slice-aggregate-put-bytes : tie.Need-slice-aggregate-put-bytes
 slice-aggregate-put-bytes c = search needs
@@ -81,7 +81,7 @@ returns-5 c =
     let s = p .before .before .before .before .before .before .before in
     let w = s .before .before in
     let a = w .before .before .before .args in
-    path-puts (a .paths .now) (a .n) (w .wide .ensures .0) (s .before .if1 .left) (s .if2 .left) (p .put-bytes .ensures) (k .put-path-links .ensures)
+    path-puts (a .paths .now) (a .tag) (a .n) (w .wide .ensures .0) (s .before .if1 .left) (s .if2 .left) (p .put-bytes .ensures) (k .put-path-links .ensures)
 
 pub put-path-spec : {M : Type 1} → statement M
 put-path-spec =
@@ -99,8 +99,8 @@ put-path-spec =
     element-copy-out-initiator
     add-target
     element-copy-out-target
-    cast-t16
-    add-t22
+    cast-t17
+    add-t23
     slice-aggregate-put-bytes
     put-bytes-requires
     add-put-path-links

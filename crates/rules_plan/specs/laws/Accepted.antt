@@ -64,6 +64,7 @@ module _ (s : List ℕ) (p : Plan) (clean : Clean s p) where
         reached = f .reached;
         timing = one (p .timings) refl;
         times = omega (arith, f .lists .times);
+        replies = f .lists .replies;
         some-entry = omega (arith, (some-counted (p .entries)) .0 (clean .complete .entry));
         no-overrun = clean .no-overrun;
         no-clash = clean .no-clash;

@@ -1,5 +1,5 @@
 -- The canonical plan: it is the same plan, and plans are the same exactly when they have one canonical plan.
-use mathlib.Core.Path.{_≡_, refl, sym, ap, fun-ext}
+use mathlib.Core.Path.{_≡_, refl, sym, ap, _∙_, fun-ext}
 use mathlib.Core.Logic.{_↔_, _⊎_, inl, inr}
 use mathlib.Core.List.{List, List·Memᴰ}
 use mathlib.Core.Bool.{Bool, true, false}
@@ -10,14 +10,14 @@ use borrow.Author.Tests.{leb-true, leb-false}
 use Rattle.lists.specs.Search.{keep, isIn, twice, below64}
 use Rattle.lists.specs.Order.{Shuffled}
 use Rattle.lists.specs.laws.Shuffle.{Respects, eq-respects, shuffled-each, any-shuffled}
-use Rattle.lists.specs.laws.Order.{order-shuffled, orders-shuffled, order-same, orders-same, inOrder-shuffled, inOrders-shuffled, inOrder-numbers}
+use Rattle.lists.specs.laws.Order.{order-shuffled, orders-shuffled, order-same, orders-same, pair-turned, inOrder-shuffled, inOrders-shuffled, inOrder-numbers}
 use Rattle.rules_plan.specs.Plan.{Link, Entry, Plan}
 use Rattle.rules_plan.specs.Judge.{outOfRange}
 use Rattle.rules_plan.specs.Canon.{smallFirst, rising, withRising, canonical, SameLink, SameEntry, SamePlan}
 use Rattle.rules_plan.specs.Good.{Good, Each, sameDeviceNumber, sameLinkNumber, samePathEnds, sameEntryPlace}
 use Rattle.rules_plan.specs.laws.Same.{link-refl, entry-refl, plan-sym, plan-trans, same-ends}
 use Rattle.rules_plan.specs.laws.SameItems.{good-same}
-use Rattle.rules_plan.specs.laws.InRange.{device-ranged, link-ranged, path-ranged, entry-ranged}
+use Rattle.rules_plan.specs.laws.InRange.{device-ranged, link-ranged, path-ranged, entry-ranged, reply-ranged}
 
 -- smallFirst gives the same link, and withRising the same entry ..
 pub smallFirst-same : (l : Link) → SameLink l (smallFirst l)
@@ -64,6 +64,7 @@ same-ordered p r u = record {
       (λ e m. withRising-same e (u e m) ((entry-ranged p r e m) .targets));
   timings = refl;
   times = refl;
+  replies = inOrders-shuffled (λ x. x .end) (λ x. x .start) (p .replies) (λ x m. let h = reply-ranged p r x m in (h .end, h .start));
 }
 
 pub same-canonical : (p : Plan) → Good p → SamePlan p (canonical p)
@@ -82,6 +83,7 @@ canonical-same p q g s = rw (
   orders-shuffled entry-refl withRising withRising-respects (λ e. e .initiator) (λ e. e .slot) (λ e f h. h .initiator) (λ e f h. h .slot) (s .entries) (g .entries),
   s .timings,
   s .times,
+  orders-same (s .replies) (λ x. x .end) (λ x. x .start) (pair-turned (λ x. x .start) (λ x. x .end) (p .replies) ∙ g .replies),
 )
 
 pub canonical-twice : (p : Plan) → Good p → canonical (canonical p) ≡ canonical p

@@ -1,6 +1,6 @@
 -- Verdict 14: what `clash` finds is the clash in words, with the least slot, then the least initiators, then the least link.
 use mathlib.Core.Path.{_≡_, refl, sym}
-use mathlib.Core.Logic.{_↔_}
+use mathlib.Core.Logic.{_↔_, inl, inr}
 use mathlib.Core.List.{List, List·Memᴰ}
 use mathlib.Core.Option.{none, some}
 use mathlib.Core.Bool.{true, false, _&&_}
@@ -20,8 +20,9 @@ use Rattle.rules_plan.specs.Judge.{outOfRange, clashOn, clashWith, clash
 use Rattle.rules_plan.specs.Good.{Each}
 use Rattle.rules_plan.specs.Words.{Clashing, pair, LeastClash}
 use Rattle.rules_plan.specs.laws.Ranges.{EntryRange}
-use Rattle.rules_plan.specs.laws.InRange.{path-ranged}
+use Rattle.rules_plan.specs.laws.InRange.{path-ranged, reply-ranged}
 use Rattle.rules_plan.specs.laws.Uses.{on-path}
+use Rattle.rules_plan.specs.Promises.{OnPath}
 
 -- initiator i may use link l in slot v: by an entry that covers v, for a target
 pub record May (p : Plan) (es : List Entry) (v i l : ℕ) : Type 0 where
@@ -54,7 +55,11 @@ at-work p es v i l m = any-intro (λ (e : Entry). eqb i (e .initiator) && covers
 
 -- a link that is used is below 64
 pub used-low : (p : Plan) (i t l : ℕ) → Each p outOfRange false → uses p i t l ≡ true → l < 64
-used-low p i t l r h = let o = (on-path p i t l) .0 h in (path-ranged p r (o .route) (o .has)) .links l (o .on)
+used-low p i t l r h = by ((on-path p i t l) .0 h)
+  where
+    by : OnPath p i t l → l < 64
+    by (inl o) = (path-ranged p r (o .route) (o .has)) .links l (o .on)
+    by (inr o) = (reply-ranged p r (o .route) (o .has)) .links l (o .on)
 
 -- two initiators clash on a link exactly when both may use it
 module _ {p : Plan} {es : List Entry} {v i j l : ℕ} (c : Clashing p es v i j l) where

@@ -11,17 +11,17 @@ use borrow.Author.Tests.{ltb-false, eq-eqb}
 use Rattle.lists.specs.Search.{any, keep, find, repeats, twice, upFrom, below64}
 use Rattle.lists.specs.laws.Bools.{neither, true-both, not-both}
 use Rattle.lists.specs.laws.Append.{once-more}
-use Rattle.rules_plan.specs.Plan.{Device, Link, Route, Entry, Timing, Times, Plan, blank, Item, device, link, path, entry, timing, times, grow}
+use Rattle.rules_plan.specs.Plan.{Device, Link, Route, Entry, Timing, Times, Plan, blank, Item, device, link, path, entry, timing, times, reply, grow}
 use Rattle.rules_plan.specs.Fields.{tags, tagOf, comesOnce, tagFor}
 use Rattle.rules_plan.specs.Meaning.{isInitiator, initiators}
 use Rattle.rules_plan.specs.Judge.{outOfRange, givenBefore, notGiven, noWalk, noPath}
 use Rattle.rules_plan.specs.Canon.{items}
-use Rattle.rules_plan.specs.Good.{sameDeviceNumber, sameLinkNumber, samePathEnds, sameEntryPlace, Each}
+use Rattle.rules_plan.specs.Good.{sameDeviceNumber, sameLinkNumber, samePathEnds, sameEntryPlace, Each, Good}
 use Rattle.rules_plan.specs.laws.Lengths.{Sized}
 use Rattle.rules_plan.specs.laws.Items.{UpTo, items-grow, no-timings, no-times}
 use Rattle.rules_plan.specs.laws.Growth.{Within, grow-within, known-grows, walk-grows, reach-grows}
 use Rattle.rules_plan.specs.laws.Initiators.{same-initiators, eight-grows, most-grows}
-use Rattle.rules_plan.specs.laws.Once.{given-device, given-link, given-path, given-entry}
+use Rattle.rules_plan.specs.laws.Once.{given-device, given-link, given-path, given-entry, given-reply}
 use Rattle.rules_plan.specs.laws.Chain.{InOrder, no-fall, Passes, Follows, Chain, end, next}
 
 -- of the paths
@@ -43,6 +43,7 @@ pub record FairLists (p : Plan) : Type 0 where
   pub entries : FairEntries (p .entries)
   pub timings : length (p .timings) ≤ 1
   pub times : length (p .times) ≤ 1
+  pub replies : repeats samePathEnds (p .replies) ≡ false
 
 pub record Fair (p : Plan) : Type 0 where
   pub lengths : (x : Item) → List·Memᴰ x (items p) → Sized x
@@ -87,6 +88,9 @@ module _ (p : Plan) (old : FairLists p) where
       go f (inl m) = old .entries .targets f m
       go f (inr m) = rw (List·Memᴰ·eq-of-singleton m) (n .1)
 
+  more-replies : (x : Route) → givenBefore p (reply x) ≡ false → repeats samePathEnds (p .replies ++ (x ∷ [])) ≡ false
+  more-replies x h = once-more samePathEnds (p .replies) x (old .replies) (sym (given-reply p x) ∙ h)
+
   kept : (q : Plan) → q .paths ≡ p .paths → FairPaths q
   kept q e = record { once = rw e (old .paths .once); eight = rw (same-initiators q p e) (old .paths .eight); most = rw e (old .paths .most) }
 
@@ -100,12 +104,13 @@ module _ (p : Plan) (old : FairLists p) where
 
   pub lists-grow : (before : ℕ) (x : Item) → UpTo p before → Follows p before x → FairLists (grow p x)
   unfolding grow
-  lists-grow before (device d) u f = record { devices = more-devices d (f .passes .new); links = old .links; paths = kept _ refl; entries = old .entries; timings = old .timings; times = old .times }
-  lists-grow before (link l) u f = record { devices = old .devices; links = more-links l (f .passes .new); paths = kept _ refl; entries = old .entries; timings = old .timings; times = old .times }
-  lists-grow before (path x) u f = record { devices = old .devices; links = old .links; paths = more-paths x (f .passes); entries = old .entries; timings = old .timings; times = old .times }
-  lists-grow before (entry e) u f = record { devices = old .devices; links = old .links; paths = kept _ refl; entries = more-entries e (f .passes .new); timings = old .timings; times = old .times }
-  lists-grow before (timing t) u f = record { devices = old .devices; links = old .links; paths = kept _ refl; entries = old .entries; timings = one-timing before t u (f .order); times = old .times }
-  lists-grow before (times x) u f = record { devices = old .devices; links = old .links; paths = kept _ refl; entries = old .entries; timings = old .timings; times = one-times before x u (f .order) }
+  lists-grow before (device d) u f = record { devices = more-devices d (f .passes .new); links = old .links; paths = kept _ refl; entries = old .entries; timings = old .timings; times = old .times; replies = old .replies }
+  lists-grow before (link l) u f = record { devices = old .devices; links = more-links l (f .passes .new); paths = kept _ refl; entries = old .entries; timings = old .timings; times = old .times; replies = old .replies }
+  lists-grow before (path x) u f = record { devices = old .devices; links = old .links; paths = more-paths x (f .passes); entries = old .entries; timings = old .timings; times = old .times; replies = old .replies }
+  lists-grow before (entry e) u f = record { devices = old .devices; links = old .links; paths = kept _ refl; entries = more-entries e (f .passes .new); timings = old .timings; times = old .times; replies = old .replies }
+  lists-grow before (timing t) u f = record { devices = old .devices; links = old .links; paths = kept _ refl; entries = old .entries; timings = one-timing before t u (f .order); times = old .times; replies = old .replies }
+  lists-grow before (times x) u f = record { devices = old .devices; links = old .links; paths = kept _ refl; entries = old .entries; timings = old .timings; times = one-times before x u (f .order); replies = old .replies }
+  lists-grow before (reply x) u f = record { devices = old .devices; links = old .links; paths = kept _ refl; entries = old .entries; timings = old .timings; times = old .times; replies = more-replies x (f .passes .new) }
 
 -- what holds of the items and of one more holds of the items of the grown plan
 each-grow : (P : Item → Type 0) (p : Plan) (x : Item) → UpTo p (tagFor x) → ((y : Item) → List·Memᴰ y (items p) → P y) → P x → (y : Item) → List·Memᴰ y (items (grow p x)) → P y
@@ -158,6 +163,26 @@ blank-fair = record {
     entries = record { once = refl; targets = λ e m. absurd (List·Memᴰ·not-nil m) };
     timings = omega arith;
     times = omega arith;
+    replies = refl;
+  };
+}
+
+-- a good plan is fair
+pub good-fair : (p : Plan) → Good p → Fair p
+good-fair p g = record {
+  lengths = g .lengths;
+  ranges = g .ranges;
+  known = g .known;
+  walks = g .walks;
+  reached = g .reached;
+  lists = record {
+    devices = g .devices;
+    links = g .links;
+    paths = record { once = g .paths; eight = g .eight; most = g .most };
+    entries = record { once = g .entries; targets = g .targets };
+    timings = omega (arith, g .timing);
+    times = g .times;
+    replies = g .replies;
   };
 }
 

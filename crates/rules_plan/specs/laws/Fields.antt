@@ -12,8 +12,8 @@ use lib.ListN.{length, drop, length-append, length-take, length-drop, take-appen
 use lib.Seq.{getD-drop, getD-take, drop-drop, take-append-seam, drop-append-seam}
 use Rattle.lists.specs.Search.{find, upFrom}
 use Rattle.lists.specs.laws.Append.{spelled}
-use Rattle.rules_plan.specs.Plan.{nth, two, Item, device, link, path, entry, timing, times}
-use Rattle.rules_plan.specs.Fields.{tags, tagOf, itemOf, lengthAllowed, asDevice, asLink, asPath, asEntry, asTiming, asTimes, twoBytes, fourBytes, tagFor, contentFor, fieldFor, tagAt, sizeAt, contentAt, nextAt, itemAt}
+use Rattle.rules_plan.specs.Plan.{nth, two, Item, device, link, path, entry, timing, times, reply}
+use Rattle.rules_plan.specs.Fields.{tags, tagOf, itemOf, lengthAllowed, asDevice, asLink, asPath, asEntry, asTiming, asTimes, asReply, twoBytes, fourBytes, tagFor, contentFor, fieldFor, tagAt, sizeAt, contentAt, nextAt, itemAt}
 use Rattle.rules_plan.specs.Judge.{outOfRange}
 use Rattle.rules_plan.specs.Good.{Bytes}
 use Rattle.rules_plan.specs.laws.Ranges.{timing-range, times-ranged}
@@ -32,7 +32,7 @@ two-read : (n : ℕ) → n / 256 * 256 + n % 256 ≡ n
 two-read n = omega arith
 
 pub item-read : (x : Item) → outOfRange x ≡ false → itemOf (tagFor x) (contentFor x) ≡ some x
-unfolding itemOf tagOf tags find tagFor contentFor asDevice asLink asPath asEntry asTiming asTimes twoBytes fourBytes
+unfolding itemOf tagOf tags find tagFor contentFor asDevice asLink asPath asEntry asTiming asTimes asReply twoBytes fourBytes
 item-read (device d) h = refl
 item-read (link l) h = refl
 item-read (path x) h = refl
@@ -50,6 +50,7 @@ item-read (times x) h =
       four-read (x .g) (omega (arith, r .g)),
       four-read (x .slot) (omega (arith, r .slot)),
     )
+item-read (reply x) h = refl
 
 -- item x stands at offset at of file s, with rest behind it. (At offset `length pre` of `pre ++ (fieldFor x ++ rest)` it does, by
 -- `drop-append-seam`.)

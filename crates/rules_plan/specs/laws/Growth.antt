@@ -11,10 +11,10 @@ use borrow.Author.Tests.{not-false}
 use Rattle.lists.specs.Search.{all, find, isIn}
 use Rattle.lists.specs.laws.Bools.{both-true, true-both, either, none-some, not-both}
 use Rattle.lists.specs.laws.Append.{Begins, begins-self, begins-append, any-begins, find-begins, all-more}
-use Rattle.rules_plan.specs.Plan.{Link, Plan, Item, device, link, path, entry, timing, times, grow}
+use Rattle.rules_plan.specs.Plan.{Link, Route, Plan, Item, device, link, path, entry, timing, times, reply, grow}
 use Rattle.rules_plan.specs.Fields.{tagFor}
 use Rattle.rules_plan.specs.Meaning.{isDevice, hasKind, isNode, isRouter, isLink, hasPath, leadsFrom, leads, walks, isWalk}
-use Rattle.rules_plan.specs.Judge.{notGiven, noWalk, noPath}
+use Rattle.rules_plan.specs.Judge.{routeNotGiven, notGiven, routeNoWalk, noWalk, noPath}
 
 -- the devices, links and paths of p stand in front in q, as far as their tags are below n
 pub record Within (n : ℕ) (p q : Plan) : Type 0 where
@@ -30,6 +30,7 @@ grow-within n p (path x) = record { devices = λ _. begins-self (p .devices); li
 grow-within n p (entry e) = record { devices = λ _. begins-self (p .devices); links = λ _. begins-self (p .links); paths = λ _. begins-self (p .paths) }
 grow-within n p (timing t) = record { devices = λ _. begins-self (p .devices); links = λ _. begins-self (p .links); paths = λ _. begins-self (p .paths) }
 grow-within n p (times x) = record { devices = λ _. begins-self (p .devices); links = λ _. begins-self (p .links); paths = λ _. begins-self (p .paths) }
+grow-within n p (reply x) = record { devices = λ _. begins-self (p .devices); links = λ _. begins-self (p .links); paths = λ _. begins-self (p .paths) }
 
 module _ (p q : Plan) where
   device-grows : Begins (p .devices) (q .devices) → (n : ℕ) → isDevice p n ≡ true → isDevice q n ≡ true
@@ -86,6 +87,20 @@ module _ (p q : Plan) where
   not-not : (a b : Bool) → (a ≡ true → b ≡ true) → not a ≡ false → not b ≡ false
   not-not a b f h = rw (f (not-false a h))
 
+  -- 8 and 10 of a route
+  route-known-grows : (x : Route) → Begins (p .devices) (q .devices) → Begins (p .links) (q .links) → routeNotGiven p x ≡ false → routeNotGiven q x ≡ false
+  route-known-grows x b l h = not-not _ _ on h
+    where
+      on : isNode p (x .start) && isNode p (x .end) && all (isLink p) (x .links) ≡ true → isNode q (x .start) && isNode q (x .end) && all (isLink q) (x .links) ≡ true
+      on g =
+          let a = both-true (isNode p (x .start) && isNode p (x .end)) (all (isLink p) (x .links)) g in
+          let c = both-true (isNode p (x .start)) (isNode p (x .end)) (a .0) in
+          true-both (true-both (node-grows b (x .start) (c .0)) (node-grows b (x .end) (c .1))) (all-more (isLink p) (isLink q) (x .links) (link-grows l) (a .1))
+
+  route-walk-grows : (x : Route) → Begins (p .devices) (q .devices) → Begins (p .links) (q .links) → routeNoWalk p x ≡ false → routeNoWalk q x ≡ false
+  unfolding isWalk
+  route-walk-grows x b l h = not-not _ _ (walks-grows b l (x .start ∷ []) (x .start) (x .links) (x .end)) h
+
   -- 8
   pub known-grows : (x : Item) → Within (tagFor x) p q → notGiven p x ≡ false → notGiven q x ≡ false
   unfolding notGiven tagFor
@@ -94,32 +109,25 @@ module _ (p q : Plan) where
     where
       b : Begins (p .devices) (q .devices)
       b = w .devices (omega arith)
-  known-grows (path x) w h = not-not _ _ on h
-    where
-      b : Begins (p .devices) (q .devices)
-      b = w .devices (omega arith)
-
-      on : isNode p (x .start) && isNode p (x .end) && all (isLink p) (x .links) ≡ true → isNode q (x .start) && isNode q (x .end) && all (isLink q) (x .links) ≡ true
-      on g =
-          let a = both-true (isNode p (x .start) && isNode p (x .end)) (all (isLink p) (x .links)) g in
-          let c = both-true (isNode p (x .start)) (isNode p (x .end)) (a .0) in
-          true-both (true-both (node-grows b (x .start) (c .0)) (node-grows b (x .end) (c .1))) (all-more (isLink p) (isLink q) (x .links) (link-grows (w .links (omega arith))) (a .1))
+  known-grows (path x) w h = route-known-grows x (w .devices (omega arith)) (w .links (omega arith)) h
   known-grows (entry e) w h = not-not _ _ (λ g. let a = both-true (isNode p (e .initiator)) (all (isNode p) (e .targets)) g in true-both (node-grows b (e .initiator) (a .0)) (all-more (isNode p) (isNode q) (e .targets) (node-grows b) (a .1))) h
     where
       b : Begins (p .devices) (q .devices)
       b = w .devices (omega arith)
   known-grows (timing t) w h = refl
   known-grows (times x) w h = refl
+  known-grows (reply x) w h = route-known-grows x (w .devices (omega arith)) (w .links (omega arith)) h
 
   -- 10
   pub walk-grows : (x : Item) → Within (tagFor x) p q → noWalk p x ≡ false → noWalk q x ≡ false
   unfolding noWalk tagFor isWalk
   walk-grows (device d) w h = refl
   walk-grows (link l) w h = refl
-  walk-grows (path x) w h = not-not _ _ (walks-grows (w .devices (omega arith)) (w .links (omega arith)) (x .start ∷ []) (x .start) (x .links) (x .end)) h
+  walk-grows (path x) w h = route-walk-grows x (w .devices (omega arith)) (w .links (omega arith)) h
   walk-grows (entry e) w h = refl
   walk-grows (timing t) w h = refl
   walk-grows (times x) w h = refl
+  walk-grows (reply x) w h = route-walk-grows x (w .devices (omega arith)) (w .links (omega arith)) h
 
   -- 11
   pub reach-grows : (x : Item) → Within (tagFor x) p q → noPath p x ≡ false → noPath q x ≡ false
@@ -130,3 +138,4 @@ module _ (p q : Plan) where
   reach-grows (entry e) w h = not-not _ _ (all-more (hasPath p (e .initiator)) (hasPath q (e .initiator)) (e .targets) (has-path-grows (w .paths (omega arith)) (e .initiator))) h
   reach-grows (timing t) w h = refl
   reach-grows (times x) w h = refl
+  reach-grows (reply x) w h = not-not _ _ (has-path-grows (w .paths (omega arith)) (x .end) (x .start)) h

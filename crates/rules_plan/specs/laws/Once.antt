@@ -1,11 +1,12 @@
 -- Row 7: an item was given before exactly when an item of its kind in the plan is the same.
 use mathlib.Core.Path.{_≡_, ap}
+use mathlib.Core.List.{List}
 use mathlib.Core.Bool.{Bool, _||_}
 use Rattle.lists.specs.Search.{any, twice}
 use Rattle.lists.specs.laws.Search.{any-same}
 use Rattle.lists.specs.laws.Bools.{eqb-sym}
-use Rattle.rules_plan.specs.Plan.{Device, Link, Route, Entry, Plan, device, link, path, entry}
-use Rattle.rules_plan.specs.Meaning.{isDevice, isLink, hasPath, leadsFrom, standsAt}
+use Rattle.rules_plan.specs.Plan.{Device, Link, Route, Entry, Plan, device, link, path, entry, reply}
+use Rattle.rules_plan.specs.Meaning.{isDevice, isLink, hasRoute, hasPath, leadsFrom, standsAt}
 use Rattle.rules_plan.specs.Judge.{givenBefore}
 use Rattle.rules_plan.specs.Good.{sameDeviceNumber, sameLinkNumber, samePathEnds, sameEntryPlace}
 
@@ -17,9 +18,17 @@ pub given-link : (p : Plan) (l : Link) → givenBefore p (link l) ≡ any (λ (m
 unfolding givenBefore isLink sameLinkNumber
 given-link p l = any-same _ _ (p .links) (λ m _. eqb-sym (l .num) (m .num))
 
+given-route : (xs : List Route) (x : Route) → hasRoute xs (x .start) (x .end) ≡ any (λ (y : Route). samePathEnds y x) xs
+unfolding leadsFrom samePathEnds
+given-route xs x = any-same _ _ xs (λ y _. rw (eqb-sym (x .start) (y .start), eqb-sym (x .end) (y .end)))
+
 pub given-path : (p : Plan) (x : Route) → givenBefore p (path x) ≡ any (λ (y : Route). samePathEnds y x) (p .paths)
-unfolding givenBefore hasPath leadsFrom samePathEnds
-given-path p x = any-same _ _ (p .paths) (λ y _. rw (eqb-sym (x .start) (y .start), eqb-sym (x .end) (y .end)))
+unfolding givenBefore hasPath
+given-path p x = given-route (p .paths) x
+
+pub given-reply : (p : Plan) (x : Route) → givenBefore p (reply x) ≡ any (λ (y : Route). samePathEnds y x) (p .replies)
+unfolding givenBefore
+given-reply p x = given-route (p .replies) x
 
 pub given-entry : (p : Plan) (e : Entry) → givenBefore p (entry e) ≡ any (λ (f : Entry). sameEntryPlace f e) (p .entries) || twice (e .targets)
 unfolding givenBefore standsAt sameEntryPlace

@@ -10,17 +10,17 @@ use borrow.Author.Tests.{le-ltb, ne-eqb}
 use Rattle.lists.specs.Search.{find}
 use Rattle.lists.specs.laws.Bools.{false-either}
 use Rattle.lists.specs.laws.Append.{Begins, begins-self, begins-last, once-before}
-use Rattle.rules_plan.specs.Plan.{Device, Link, Route, Entry, Timing, Times, Plan, blank, withDevices, withLinks, withPaths, withEntries, withTimings, withTimes, Item, device, link, path, entry, timing, times, grow}
+use Rattle.rules_plan.specs.Plan.{Device, Link, Route, Entry, Timing, Times, Plan, blank, withDevices, withLinks, withPaths, withEntries, withTimings, withTimes, withReplies, Item, device, link, path, entry, timing, times, reply, grow}
 use Rattle.rules_plan.specs.Fields.{tags, tagOf, comesOnce, tagFor}
 use Rattle.rules_plan.specs.Judge.{givenBefore, tooMany}
 use Rattle.rules_plan.specs.Canon.{items}
 use Rattle.rules_plan.specs.Good.{Good, sameDeviceNumber, sameLinkNumber, samePathEnds, sameEntryPlace}
 use Rattle.rules_plan.specs.laws.Ranges.{route-range}
 use Rattle.rules_plan.specs.laws.Lengths.{Sized}
-use Rattle.rules_plan.specs.laws.Items.{device-in, link-in, path-in, entry-in, timing-in, times-in}
+use Rattle.rules_plan.specs.laws.Items.{device-in, link-in, path-in, entry-in, timing-in, times-in, reply-in}
 use Rattle.rules_plan.specs.laws.Growth.{Within, known-grows, walk-grows, reach-grows}
 use Rattle.rules_plan.specs.laws.Initiators.{few-before}
-use Rattle.rules_plan.specs.laws.Once.{given-device, given-link, given-path, given-entry}
+use Rattle.rules_plan.specs.laws.Once.{given-device, given-link, given-path, given-entry, given-reply}
 use Rattle.rules_plan.specs.laws.Chain.{InOrder, Passes, Chain, end, next, chain-append}
 
 -- a chain that ends with a tag up to n
@@ -64,7 +64,7 @@ module _ {A : Type 0} (make : A → Item) (n : ℕ) (so-far : List A → Plan) (
           let c : Chain (grow (so-far []) (make x)) (tagFor (make x)) [] (so-far (x ∷ [])) n = rw (adds x, tag x) end in
           (n, next (record { order = order; size = size; passes = pass }) c, omega arith)
 
--- the plan so far, while its devices, links, paths, entries, timing or times are read
+-- the plan so far, while its devices, links, paths, entries, timing, times or replies are read
 abbrev devicesOnly : List Device → Plan
 devicesOnly ds = withDevices ds blank
 
@@ -82,6 +82,9 @@ plusTimings p ts = withTimings ts (plusEntries p (p .entries))
 
 abbrev plusTimes : Plan → List Times → Plan
 plusTimes p xs = withTimes xs (plusTimings p (p .timings))
+
+abbrev plusReplies : Plan → List Route → Plan
+plusReplies p xs = withReplies xs (plusTimes p (p .times))
 
 module _ (p : Plan) (good : Good p) where
   -- rows 6, 8, 10 and 11 of an item, in a plan that has the items of smaller tags
@@ -153,6 +156,14 @@ module _ (p : Plan) (good : Good p) where
   times-stage before h = stage-once times 6 (plusTimes p) (p .times) (λ x. refl) (good .times) (λ x. refl)
       (λ x m. fine-item (plusTimes p []) (times x) (times-in p x m) (last-within (plusTimes p []) refl refl refl) refl refl) before (omega arith)
 
+  reply-stage : (before : ℕ) → before ≤ 6 → Led (plusReplies p []) before (map reply (p .replies)) (plusReplies p (p .replies)) 7
+  unfolding tagFor grow comesOnce tagOf tags find tooMany
+  reply-stage before h = stage reply 7 (plusReplies p) (p .replies) (λ x. refl) refl (λ xs x. refl) fine before (omega arith)
+    where
+      fine : (xs : List Route) (x : Route) → Begins (xs ++ (x ∷ [])) (p .replies) → Sized (reply x) × Passes (plusReplies p xs) (reply x)
+      fine xs x b = fine-item (plusReplies p xs) (reply x) (reply-in p x (begins-last xs x b)) (last-within (plusReplies p xs) refl refl refl)
+          (given-reply (plusReplies p xs) x ∙ once-before samePathEnds xs x (p .replies) b (good .replies)) refl
+
   pub good-chain : (last : ℕ) × Chain blank 0 (items p) p last
   unfolding items blank
   good-chain =
@@ -162,4 +173,5 @@ module _ (p : Plan) (good : Good p) where
       let (g, k, l) = entry-stage e j in
       let (m, n, o) = timing-stage g l in
       let (q, r, t) = times-stage m o in
-      (q, chain-append (chain-append (chain-append (chain-append (chain-append c d) f) k) n) r)
+      let (u, v, w) = reply-stage q t in
+      (u, chain-append (chain-append (chain-append (chain-append (chain-append (chain-append c d) f) k) n) r) v)

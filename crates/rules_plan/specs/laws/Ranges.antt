@@ -10,8 +10,8 @@ use borrow.Author.Tests.{ltb-false, eqb-false}
 use Rattle.lists.specs.Search.{any}
 use Rattle.lists.specs.laws.Bools.{neither}
 use Rattle.lists.specs.laws.Search.{any-false}
-use Rattle.rules_plan.specs.Plan.{Device, Link, Route, Entry, Timing, Times, device, link, path, entry, timing, times}
-use Rattle.rules_plan.specs.Judge.{over63, outOfRange}
+use Rattle.rules_plan.specs.Plan.{Device, Link, Route, Entry, Timing, Times, device, link, path, entry, timing, times, reply}
+use Rattle.rules_plan.specs.Judge.{over63, routeOutOfRange, outOfRange}
 use Rattle.rules_plan.specs.laws.Sheets.{TimesRange, times-range}
 
 abbrev pub Below64 : List ℕ → Type 0
@@ -66,9 +66,8 @@ link-range l h =
     let c = neither (over63 (l .num)) (over63 (l .one)) (b .0) in
     record { num = small (l .num) (c .0); one = small (l .one) (c .1); other = small (l .other) (b .1); apart = eqb-false (l .one) (l .other) (a .1) }
 
-pub route-range : (x : Route) → outOfRange (path x) ≡ false → RouteRange x
-unfolding outOfRange
-route-range x h =
+pub in-range : (x : Route) → routeOutOfRange x ≡ false → RouteRange x
+in-range x h =
     let a = neither (over63 (x .start) || over63 (x .end) || any over63 (x .links)) (eqb (x .start) (x .end)) h in
     let b = neither (over63 (x .start) || over63 (x .end)) (any over63 (x .links)) (a .0) in
     let c = neither (over63 (x .start)) (over63 (x .end)) (b .0) in
@@ -78,6 +77,14 @@ route-range x h =
       links = all-small (x .links) (b .1);
       apart = eqb-false (x .start) (x .end) (a .1);
     }
+
+pub route-range : (x : Route) → outOfRange (path x) ≡ false → RouteRange x
+unfolding outOfRange
+route-range x h = in-range x h
+
+pub reply-range : (x : Route) → outOfRange (reply x) ≡ false → RouteRange x
+unfolding outOfRange
+reply-range x h = in-range x h
 
 pub entry-range : (e : Entry) → outOfRange (entry e) ≡ false → EntryRange e
 unfolding outOfRange

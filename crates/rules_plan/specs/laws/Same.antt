@@ -1,8 +1,8 @@
 -- Plans that differ in their orders only mean the same: the names of specs/Meaning give one answer for both.
-use mathlib.Core.Path.{_≡_, refl, sym, ap, _∙_, fun-ext}
+use mathlib.Core.Path.{_≡_, refl, sym, ap, ap₂, _∙_, fun-ext}
 use mathlib.Core.Logic.{_⊎_, inl, inr}
 use mathlib.Core.List.{List, [], _∷_}
-use mathlib.Core.Option.{Option, none, some, Option·map}
+use mathlib.Core.Option.{Option, none, some, Option·map, Option·getD}
 use mathlib.Core.Bool.{Bool, true, false, not, _&&_, _||_, cond}
 use Prim.Native.Nat.{ℕ}
 use lib.Dec.{eqb}
@@ -11,11 +11,12 @@ use Rattle.lists.specs.Search.{any, keep, find, isIn, repeats, below64}
 use Rattle.lists.specs.Order.{Shuffled, then}
 use Rattle.lists.specs.laws.Search.{any-same}
 use Rattle.lists.specs.laws.Shuffle.{Respects, eq-respects, shuffled-refl, shuffled-sym, any-shuffled, find-shuffled}
-use Rattle.lists.specs.laws.Order.{one-key}
-use Rattle.rules_plan.specs.Plan.{Link, Entry, Plan}
-use Rattle.rules_plan.specs.Meaning.{isDevice, hasKind, isNode, isRouter, isLink, isInitiator, initiators, hasPath, across, leads, walks, isWalk, uses, covers, standsAt, reaches, mayUse, isAtWork, runsInto, overruns}
+use Rattle.lists.specs.laws.Order.{one-key, one-pair}
+use Rattle.lists.specs.laws.Found.{read-shuffled}
+use Rattle.rules_plan.specs.Plan.{Link, Route, Entry, Plan}
+use Rattle.rules_plan.specs.Meaning.{isDevice, hasKind, isNode, isRouter, isLink, isInitiator, initiators, leadsFrom, hasPath, across, leads, walks, isWalk, uses, homeOf, covers, standsAt, reaches, mayUse, isAtWork, runsInto, overruns}
 use Rattle.rules_plan.specs.Canon.{SameLink, SameEntry, SamePlan}
-use Rattle.rules_plan.specs.Good.{sameLinkNumber}
+use Rattle.rules_plan.specs.Good.{sameLinkNumber, samePathEnds}
 
 -- what is the same: each link and each entry to itself, all of them both ways round, plans through a third
 pub link-refl : (l : Link) → SameLink l l
@@ -43,6 +44,7 @@ plan-sym s = record {
   entries = shuffled-sym entry-sym (s .entries);
   timings = sym (s .timings);
   times = sym (s .times);
+  replies = shuffled-sym (λ x y e. sym e) (s .replies);
 }
 
 pub plan-trans : {p q r : Plan} → SamePlan p q → SamePlan q r → SamePlan p r
@@ -53,6 +55,7 @@ plan-trans s t = record {
   entries = then (s .entries) (t .entries);
   timings = s .timings ∙ t .timings;
   times = s .times ∙ t .times;
+  replies = then (s .replies) (t .replies);
 }
 
 -- what does not tell a link's ends apart is the same for links that are
@@ -77,6 +80,12 @@ same-across d = same-ends over (λ a b. turned a b (eqb d a) (eqb d b) refl refl
     turned a b true false e f = refl
     turned a b false true e f = refl
     turned a b false false e f = refl
+
+-- the way that a reply comes home, where no pair has two
+pub home-shuffled : {ys zs : List Route} → Shuffled _≡_ ys zs → repeats samePathEnds ys ≡ false → (r : Route) → homeOf ys r ≡ homeOf zs r
+unfolding homeOf leadsFrom samePathEnds
+home-shuffled {ys} s u r =
+    read-shuffled (leadsFrom (r .end) (r .start)) (eq-respects _) (λ o. Option·getD o r) (eq-respects _) (λ y. refl) s (one-pair (λ y. y .start) (λ y. y .end) ys u (r .end) (r .start))
 
 -- the plan
 module _ {p q : Plan} (s : SamePlan p q) where
@@ -114,7 +123,7 @@ module _ {p q : Plan} (s : SamePlan p q) where
 
   pub same-uses : (i t l : ℕ) → uses p i t l ≡ uses q i t l
   unfolding uses
-  same-uses i t l = any-shuffled _ (eq-respects _) (s .paths)
+  same-uses i t l = ap₂ _||_ (any-shuffled _ (eq-respects _) (s .paths)) (any-shuffled _ (eq-respects _) (s .replies))
 
   -- where no link number is there twice
   module _ (u : repeats sameLinkNumber (p .links) ≡ false) where

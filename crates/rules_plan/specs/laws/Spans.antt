@@ -16,15 +16,15 @@ use Rattle.lists.specs.laws.Numbers.{Finds, first-from}
 use Rattle.lists.specs.laws.Search.{any-elim, any-intro}
 use Rattle.rules_plan.specs.Plan.{Route, Times, Plan}
 use Rattle.rules_plan.specs.Sheet.{sheet}
-use Rattle.rules_plan.specs.Meaning.{leadsFrom, routers, takesAtMost, fitsIn, leastSpan}
+use Rattle.rules_plan.specs.Meaning.{leadsFrom, homeOf, routers, takesAtMost, fitsIn, leastSpan}
 
--- a path from i to t over which n data bytes take at most so long
+-- a path from i to t over which, and home, n data bytes take at most so long
 pub record InTime (p : Plan) (x : Times) (i t n most : ℕ) : Type 0 where
   pub route : Route
   pub has : List·Memᴰ route (p .paths)
   pub from : i ≡ route .start
   pub to : t ≡ route .end
-  pub in-time : sheet x (routers route) (routers route) n ≤ most
+  pub in-time : sheet x (routers route) (routers (homeOf (p .replies) route)) n ≤ most
 
 module _ (p : Plan) (i t n : ℕ) where
   -- without a 06, and with one
@@ -34,7 +34,7 @@ module _ (p : Plan) (i t n : ℕ) where
 
   module _ (x : Times) (xs : List Times) (timed : p .times ≡ x ∷ xs) (k : ℕ) where
     over : Route → Bool
-    over r = leadsFrom i t r && takesAtMost x n (k * x .slot) r
+    over r = leadsFrom i t r && takesAtMost x n (k * x .slot) r (homeOf (p .replies) r)
 
     pub fits-timed : (fitsIn p i t n k ≡ true) ↔ ((n ≤ 4_096) × InTime p x i t n (k * x .slot))
     unfolding fitsIn leadsFrom takesAtMost over
@@ -44,7 +44,7 @@ module _ (p : Plan) (i t n : ℕ) where
         there h =
             let (a, b) = both-true (leb n 4_096) (any over (p .paths)) (rw (timed, fitsIn) at h) in
             let (r, m, e) = any-elim over (p .paths) b in
-            let (c, d) = both-true (leadsFrom i t r) (takesAtMost x n (k * x .slot) r) e in
+            let (c, d) = both-true (leadsFrom i t r) (takesAtMost x n (k * x .slot) r (homeOf (p .replies) r)) e in
             let (f, g) = both-true (eqb i (r .start)) (eqb t (r .end)) c in
             (leb-true n 4_096 a, record { route = r; has = m; from = eqb-true i (r .start) f; to = eqb-true t (r .end) g; in-time = leb-true _ _ d })
 

@@ -11,8 +11,8 @@ use Rattle.lists.specs.Search.{find, isSome, upFrom}
 use Rattle.lists.specs.laws.Bools.{some-some, none-some, is-some}
 use Rattle.lists.specs.laws.Search.{find-some}
 use Rattle.lists.specs.laws.Append.{spelled, every-member}
-use Rattle.rules_plan.specs.Plan.{nth, four, Item, device, link, path, entry, timing, times}
-use Rattle.rules_plan.specs.Fields.{Tag, tags, tagOf, isTag, itemOf, lengthAllowed, asDevice, asLink, asPath, asEntry, asTiming, asTimes, twoBytes, fourBytes, tagFor, contentFor}
+use Rattle.rules_plan.specs.Plan.{nth, four, Item, device, link, path, entry, timing, times, reply}
+use Rattle.rules_plan.specs.Fields.{Tag, tags, tagOf, isTag, itemOf, lengthAllowed, asDevice, asLink, asPath, asEntry, asTiming, asTimes, asReply, twoBytes, fourBytes, tagFor, contentFor}
 use Rattle.rules_plan.specs.Good.{Bytes}
 use Rattle.rules_plan.specs.laws.Lengths.{allowed}
 
@@ -73,8 +73,12 @@ as-times c h k b =
     at-four : (n : ℕ) → fourBytes (four c n) ≡ nth c n ∷ nth c (n + 1) ∷ nth c (n + 2) ∷ nth c (n + 2 + 1) ∷ []
     at-four n = four-back (nth c n) (nth c (n + 1)) (nth c (n + 2)) (nth c (n + 2 + 1)) (b n) (b (n + 1)) (b (n + 2)) (b (n + 2 + 1))
 
+as-reply : (c : List ℕ) → 3 ≤ length c → contentFor (asReply c) ≡ c
+unfolding contentFor asReply upFrom
+as-reply c h = sym (spelled c 0 2 0 (omega arith))
+
 reads-all : (t : Tag) → List·Memᴰ t tags → Reads t
-unfolding tags asDevice asLink asPath asEntry asTiming asTimes tagFor contentFor twoBytes fourBytes
+unfolding tags asDevice asLink asPath asEntry asTiming asTimes asReply tagFor contentFor twoBytes fourBytes
 reads-all = every-member Reads tags (
   record { tag = λ c. refl; size = λ c h k. ap length (as-device c h k); content = λ c h k b. as-device c h k },
   (
@@ -85,7 +89,10 @@ reads-all = every-member Reads tags (
         record { tag = λ c. refl; size = λ c h k. ap length (as-entry c h); content = λ c h k b. as-entry c h },
         (
           record { tag = λ c. refl; size = λ c h k. omega arith; content = as-timing },
-          (record { tag = λ c. refl; size = λ c h k. omega arith; content = as-times }, tt),
+          (
+            record { tag = λ c. refl; size = λ c h k. omega arith; content = as-times },
+            (record { tag = λ c. refl; size = λ c h k. ap length (as-reply c h); content = λ c h k b. as-reply c h }, tt),
+          ),
         ),
       ),
     ),
@@ -128,6 +135,7 @@ item-tag (path x) = refl
 item-tag (entry e) = refl
 item-tag (timing t) = refl
 item-tag (times x) = refl
+item-tag (reply x) = refl
 
 -- an item that was read: its tag, the length of its content, and, of bytes, its content
 module _ (n : ℕ) (c : List ℕ) (x : Item) (h : itemOf n c ≡ some x) where

@@ -88,8 +88,19 @@ made-of-read k cells = go k
           cell 7 5 (omega arith),
           cell 7 6 (omega arith),
         )
+    go kind.SheetBoth =
+        rw (
+          cell 8 0 (omega arith),
+          cell 8 1 (omega arith),
+          cell 8 2 (omega arith),
+          cell 8 3 (omega arith),
+          cell 8 4 (omega arith),
+          cell 8 5 (omega arith),
+          cell 8 6 (omega arith),
+          cell 8 7 (omega arith),
+        )
 
-pub few : (k : Kind) → length (mosts k) ≤ 7
+pub few : (k : Kind) → length (mosts k) ≤ 8
 unfolding mosts
 few kind.TimeCode = omega arith
 few kind.Request = omega arith
@@ -98,6 +109,7 @@ few kind.Reading = omega arith
 few kind.Out = omega arith
 few kind.SetWatchdog = omega arith
 few kind.Sheet = omega arith
+few kind.SheetBoth = omega arith
 
 module _ {ms cells₀ cells : List ℕ} {r : Bool} (k : Kind) (bounds : ms ≡ mosts k) where
   pub numbers-bad : (ws : List (List ℕ)) → NumbersRead ms ws cells₀ cells r → not r ≡ true → Bad ≡ numbered k ws

@@ -39,7 +39,7 @@ isLoad (Reading c) = false
 isLoad (Out r) = false
 isLoad Watchdog = false
 isLoad (SetWatchdog l s r b g) = false
-isLoad (Sheet r s n a d f g) = false
+isLoad (Sheet r h s n a d f g) = false
 
 -- a command of numbers is no load, and so is that of every row but the first
 made-no-load : (k : Kind) (ns : List ℕ) → isLoad (made k ns) ≡ false
@@ -51,6 +51,7 @@ made-no-load kind.Reading ns = refl
 made-no-load kind.Out ns = refl
 made-no-load kind.SetWatchdog ns = refl
 made-no-load kind.Sheet ns = refl
+made-no-load kind.SheetBoth ns = refl
 
 no-load : (k : Kind) (ws : List (List ℕ)) → isLoad (numbered k ws) ≡ false
 unfolding numbered isLoad
@@ -83,7 +84,7 @@ only-load name ws at h = go (same name (text "load")) refl
     go false e =
         let f : Every (λ (r : Row). isLoad (r .1 ws) ≡ false) (drop 1 commands) = (
           alone-no-load Clear ws refl,
-          (no-load _ ws, (no-load _ ws, (no-load _ ws, (no-load _ ws, (no-load _ ws, (alone-no-load Watchdog ws refl, (no-load _ ws, (no-load _ ws, tt)))))))),
+          (no-load _ ws, (no-load _ ws, (no-load _ ws, (no-load _ ws, (no-load _ ws, (alone-no-load Watchdog ws refl, (no-load _ ws, (no-load _ ws, (no-load _ ws, tt))))))))),
         )
         in
         not-both (ap isLoad (rw (e, named) at h)) (others (drop 1 commands) name ws f)

@@ -30,7 +30,7 @@ Rooms (Reading c) = Unit {0}
 Rooms (Out r) = r ≤ 32_768
 Rooms Watchdog = Unit {0}
 Rooms (SetWatchdog l s r b g) = Unit {0}
-Rooms (Sheet r s n a d f g) = Unit {0}
+Rooms (Sheet r h s n a d f g) = Unit {0}
 
 -- a command of numbers, one that is its name, and one of a table
 made-rooms : (k : Kind) (ns : List ℕ) → ((i : ℕ) → i < length (mosts k) → getD ns i 0 ≤ getD (mosts k) i 0) → Rooms (made k ns)
@@ -42,6 +42,7 @@ made-rooms kind.Reading ns f = tt
 made-rooms kind.Out ns f = f 0 (omega arith)
 made-rooms kind.SetWatchdog ns f = tt
 made-rooms kind.Sheet ns f = tt
+made-rooms kind.SheetBoth ns f = tt
 
 numbered-rooms : (k : Kind) (ws : List (List ℕ)) → Rooms (numbered k ws)
 unfolding numbered
@@ -77,7 +78,7 @@ named-rooms (r ∷ rs) name ws f = go (named-rooms rs name ws (f .1)) (same name
 
 every-room : (ws : List (List ℕ)) → Every (λ (r : Row). Rooms (r .1 ws)) commands
 unfolding commands
-every-room ws = (load-rooms ws, (alone-rooms Clear ws tt, (numbered-rooms _ ws, (numbered-rooms _ ws, (numbered-rooms _ ws, (numbered-rooms _ ws, (numbered-rooms _ ws, (alone-rooms Watchdog ws tt, (numbered-rooms _ ws, (numbered-rooms _ ws, tt))))))))))
+every-room ws = (load-rooms ws, (alone-rooms Clear ws tt, (numbered-rooms _ ws, (numbered-rooms _ ws, (numbered-rooms _ ws, (numbered-rooms _ ws, (numbered-rooms _ ws, (alone-rooms Watchdog ws tt, (numbered-rooms _ ws, (numbered-rooms _ ws, (numbered-rooms _ ws, tt)))))))))))
 
 pub line-rooms : (s : List ℕ) → Rooms (commandOf s)
 unfolding commandOf ofWords

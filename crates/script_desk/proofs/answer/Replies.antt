@@ -48,7 +48,7 @@ module _ (line : List ℕ) (n : ℕ) {c : Command} (e : c ≡ commandOf line) wh
     unfolding Replied
     watchdog f p = rw (is f) (record { printed = watchdogLine (k .five); told = (refl, refl); prints = p })
 
-    pub sheet : {r s size a d f g : ℕ} {x : sheets.Sheet} → c ≡ Sheet r s size a d f g → x ≡ sheetAnswer (paced s a d f g) r r size → Prints (sheetLine x) l o end
+    pub sheet : {there home s size a d f g : ℕ} {x : sheets.Sheet} → c ≡ Sheet there home s size a d f g → x ≡ sheetAnswer (paced s a d f g) there home size → Prints (sheetLine x) l o end
         → Answers (Replied (commandOf line) line n k k) l o end
     unfolding Replied
     sheet {x} f g p = rw (is f) (record { printed = sheetLine x; told = (refl, ap sheetLine g); prints = p })

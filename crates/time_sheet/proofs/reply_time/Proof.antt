@@ -1,5 +1,5 @@
 -- `reply_time` meets its contract. Assumes nothing.
-use Rattle.rules_plan.specs.Sheet.{reply}
+use Rattle.rules_plan.specs.Sheet.{replyTime}
 use borrow.Author.Needs.{needs}
 use Rattle.time_sheet.proofs.reply_time.Statement.{statement}
 use Rattle.time_sheet.proofs.reply_time.Tie as tie
@@ -14,7 +14,7 @@ quotient-up-requires : tie.Need-quotient-up-requires
 quotient-up-requires c κs = search needs
 
 returns : tie.Need-returns
-unfolding reply
+unfolding replyTime
 returns c = search needs
 
 pub reply-time-spec : {M : Type 1} → statement M

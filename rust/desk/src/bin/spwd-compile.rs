@@ -30,8 +30,10 @@ The text form has one item a line, and # starts a comment:
     intervals LEAST GREATEST   of the time-codes
     times S A D F G SLOT       slot times: S Mbit/s, latencies A, D, F, G and slot length SLOT in ns; a plan
                                may go without them
+    reply I T L..              the reply's way from target T back to initiator I over the links L; without one it
+                               goes back over the links of the path
     bytes HH..                 bytes as they are, in hex
-The items stand in this order: devices, links, paths, entries, intervals, times.
+The items stand in this order: devices, links, paths, entries, intervals, times, replies.
 
 A line that is none of these is said on standard error with what would be right, and nothing is written.
 Else the bytes are written, and the verdict of the box on them is said on standard error; if it refuses

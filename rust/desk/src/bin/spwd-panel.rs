@@ -28,6 +28,7 @@ One command a line, words separated by one space, numbers decimal:
     wd                                           the watchdog's five numbers
     setwd LAST SEEN REPORTED LEAST GREATEST      lends other five
     sheet ROUTERS RATE LENGTH A D F G            the time of a transaction; no plan is asked
+    sheet2 ROUTERS BACK RATE LENGTH A D F G      the same, with so many routers on the reply's way
 An empty line and one that begins with # are skipped. A line that is none of these changes nothing.
 
 Status: 0 every line was a command or skipped, 1 some were not, 3 wrong arguments, or a file that cannot be

@@ -9,6 +9,7 @@ use desk::plan::Plan;
 use desk::sheet::{of_plan, with_times, Asked};
 use desk::source::Source;
 use desk::streams::{fail, put, put_lines, say, Input, Status};
+use desk::ways::Routers;
 use spwd::{Latencies, SheetOutOfRange};
 use std::ffi::OsString;
 use std::process::ExitCode;
@@ -19,16 +20,18 @@ const HELP: &str = "\
 spwd-sheet [--text | --bytes] [FILE]                          the times of a plan's transactions
 spwd-sheet --times S A D F G SLOT [--text | --bytes] [FILE]   the same with other slot times than its own
 spwd-sheet --routers R --rate S --latencies A D F G LENGTH..  the sheet by itself, term by term
+spwd-sheet --routers R --reply-routers B --rate S ..          the same for a reply with a way of its own
 spwd-sheet --help                                             this
 
 FILE is a plan file, or the text form of a plan if its name ends in .plan; --text says that it is the text
 form, --bytes that it is a plan file, whatever its name. Without FILE, or with -, standard input is read.
 
-Of a plan: for each path its routers and the time of some lengths; the largest length that its entries
-permit for each of their spans (none: not even 0 bytes fit); and the least slot length with which every
-entry permits 256 bytes for each slot of its span. By itself: the terms (a) to (i) and their sum, for each
-LENGTH of data bytes.
-    R      routers, the links of a path less one: 0 to 7
+Of a plan: for each path its routers, and those of its reply where they are not as many, and the time of some
+lengths; the largest length that its entries permit for each of their spans (none: not even 0 bytes fit); and
+the least slot length with which every entry permits 256 bytes for each slot of its span. By itself: the terms
+(a) to (i) and their sum, for each LENGTH of data bytes.
+    R      routers, the links of a path less one: 0 to 7; of the reply too, where B is not given
+    B      routers on the reply's way, its links less one: 0 to 7
     S      the rate of the links: 2 to 400 Mbit/s
     A      latency from the time-code to the start of the command, in ns: at most 1,000,000, as the next four
     D      the target authorises the command
@@ -42,11 +45,12 @@ a number of the sheet is out of range; 3 wrong arguments, or a file that cannot 
 the pipe early is no failure.
 ";
 
-const OPTIONS: [(&str, usize); 6] = [
+const OPTIONS: [(&str, usize); 7] = [
     ("--text", 0),
     ("--bytes", 0),
     ("--times", 6),
     ("--routers", 1),
+    ("--reply-routers", 1),
     ("--rate", 1),
     ("--latencies", 4),
 ];
@@ -73,7 +77,9 @@ fn run(options: &Options, others: Vec<OsString>) -> Result<Status, String> {
     let own = |name| own(options, name).map_err(|wrong| see(&wrong));
     let alone = [own("--routers")?, own("--rate")?, own("--latencies")?];
     let plan = [own("--text")?, own("--bytes")?, own("--times")?];
+    let reply = own("--reply-routers")?;
     match (alone, plan) {
+        ([None, ..], _) if reply.is_some() => Err(see("--reply-routers goes with --routers")),
         ([None, None, None], [Some(_), Some(_), _]) => {
             Err(see("--text and --bytes exclude each other"))
         }
@@ -84,7 +90,8 @@ fn run(options: &Options, others: Vec<OsString>) -> Result<Status, String> {
             of_file(&input, is_text, times.as_deref())
         }
         ([Some(routers), Some(rate), Some(latencies)], [None, None, None]) => {
-            let asked = asked(routers, rate, latencies).map_err(|wrong| see(&wrong))?;
+            let ways = [routers, reply.unwrap_or(routers)];
+            let asked = asked(ways, rate, latencies).map_err(|wrong| see(&wrong))?;
             let lengths = lengths(&others).map_err(|wrong| see(&wrong))?;
             by_itself(&asked, &lengths)
         }
@@ -113,12 +120,21 @@ fn numbers<const N: usize>(words: &[OsString], most: u32) -> Result<[u32; N], St
     Ok(numbers)
 }
 
-fn asked(routers: &[OsString], rate: &[OsString], latencies: &[OsString]) -> Result<Asked, String> {
-    let [routers] = numbers(routers, u8::MAX.into())?;
+/// The routers of the command and of the reply, the rate and the latencies.
+fn asked(
+    [command, reply]: [&[OsString]; 2],
+    rate: &[OsString],
+    latencies: &[OsString],
+) -> Result<Asked, String> {
+    let [command] = numbers(command, u8::MAX.into())?;
+    let [reply] = numbers(reply, u8::MAX.into())?;
     let [rate] = numbers(rate, u16::MAX.into())?;
     let [a, d, f, g] = numbers(latencies, u32::MAX)?;
     Ok(Asked {
-        routers: routers as u8,
+        routers: Routers {
+            command: command as u8,
+            reply: reply as u8,
+        },
         rate: rate as u16,
         latencies: Latencies { a, d, f, g },
     })

@@ -16,10 +16,11 @@ spwd-show --help                      this
 FILE is a plan file, or the text form of a plan if its name ends in .plan; --text says that it is the text
 form, --bytes that it is a plan file, whatever its name. Without FILE, or with -, standard input is read.
 
-An accepted plan is shown as the box holds it: devices, links, paths, intervals, slot times, the table of
-sixty-four slots, and targets of entries that the slot times never permit.
-Of a refused plan the field, or the entries and paths, that the refusal is about are shown; of a plan with no
-entry what it has, and the initiators that are left without one.
+An accepted plan is shown as the box holds it: devices, links, paths with the replies that have a way of their
+own, intervals, slot times, the table of sixty-four slots, and targets of entries that the slot times never
+permit.
+Of a refused plan the field, or the entries, paths and replies, that the refusal is about are shown; of a plan
+with no entry what it has, and the initiators that are left without one.
 
 Status: 0 accepted, 1 the text has lines that are no item, 2 the box refuses the plan, 3 wrong arguments,
 or a file that cannot be read. A reader that closes the pipe early is no failure.

@@ -129,6 +129,7 @@ impl Replay {
                 greatest: words.long()?,
             }),
             b"sheet" => Command::Sheet(words.sheet()?),
+            b"sheet2" => Command::Sheet(words.sheet2()?),
             _ => return None,
         };
         words.next().is_none().then_some(command)
@@ -305,14 +306,34 @@ impl<'a, I: Iterator<Item = &'a [u8]>> Words<I> {
     }
 
     fn sheet(&mut self) -> Option<Result<Sheet, Fault>> {
-        let (routers, rate, length) = (self.byte()?, self.short()?, self.short()?);
+        let routers = self.byte()?;
+        self.sheet_over(routers, routers)
+    }
+
+    fn sheet2(&mut self) -> Option<Result<Sheet, Fault>> {
+        let (command_routers, reply_routers) = (self.byte()?, self.byte()?);
+        self.sheet_over(command_routers, reply_routers)
+    }
+
+    fn sheet_over(
+        &mut self,
+        command_routers: u8,
+        reply_routers: u8,
+    ) -> Option<Result<Sheet, Fault>> {
+        let (rate, length) = (self.short()?, self.short()?);
         let latencies = Latencies {
             a: self.long()?,
             d: self.long()?,
             f: self.long()?,
             g: self.long()?,
         };
-        Some(sheet(routers, routers, rate, length, latencies))
+        Some(sheet(
+            command_routers,
+            reply_routers,
+            rate,
+            length,
+            latencies,
+        ))
     }
 }
 

@@ -41,6 +41,11 @@ pub fn usual_times(slot_length: u32) -> Vec<u8> {
     times(200, [5_000, 5_000, 5_000, 5_000, slot_length])
 }
 
+/// Field 07: links from the target back to the initiator.
+pub fn reply(initiator: u8, target: u8, links: &[u8]) -> Vec<u8> {
+    field(7, &[&[initiator, target], links].concat())
+}
+
 /// Devices, links and paths of plan A.
 pub fn plan_a_network() -> Vec<Vec<u8>> {
     let nodes = [1, 2, 3, 4].map(|number| device(number, 0));
@@ -123,6 +128,49 @@ pub fn target_behind(routers: u8) -> u8 {
 pub fn row_plan(entries: &[Vec<u8>], after: &[u8]) -> Vec<u8> {
     let intervals = intervals(90, 110);
     [row_network(), entries.concat(), intervals, after.to_vec()].concat()
+}
+
+/// The network of plan A without its paths, and a second way for every node: router 12, joined to the
+/// routers 10 and 11 by links 5 and 6, and to the nodes 1 to 4 by links 21 to 24. It has these fields
+/// too, each at the place of its tag, and intervals.
+pub fn two_ways(fields: &[Vec<u8>]) -> Vec<u8> {
+    let mut all = plan_a_network();
+    all.retain(|field| field[0] < 3);
+    all.extend([device(12, 1), link(5, 10, 12), link(6, 11, 12)]);
+    all.extend((1..5).map(|node| link(20 + node, node, 12)));
+    all.push(intervals(90, 110));
+    all.extend_from_slice(fields);
+    all.sort_by_key(|field| field[0]);
+    all.concat()
+}
+
+/// The links from node 0 to node 1 with so many routers between, in a network that has such a way for
+/// each number up to seven.
+pub fn way(routers: u8) -> Vec<u8> {
+    match routers {
+        0 => vec![20],
+        _ => [vec![0], (10..9 + routers).collect(), vec![20 + routers]].concat(),
+    }
+}
+
+/// The same from node 1 back to node 0.
+pub fn way_back(routers: u8) -> Vec<u8> {
+    way(routers).into_iter().rev().collect()
+}
+
+/// The network of those ways with these fields, each at the place of its tag, and intervals: routers 10
+/// to 16 in a row, with links 10 to 15 between them; link 0 joins 0 and 10, link 20 joins 0 and 1, and
+/// link 20 + n joins the n-th router and 1.
+pub fn all_ways(fields: &[Vec<u8>]) -> Vec<u8> {
+    let mut all = vec![device(0, 0), device(1, 0)];
+    all.extend((10..17).map(|router| device(router, 1)));
+    all.extend([link(0, 0, 10), link(20, 0, 1)]);
+    all.extend((10..16).map(|number| link(number, number, number + 1)));
+    all.extend((1..8).map(|number| link(20 + number, 9 + number, 1)));
+    all.push(intervals(90, 110));
+    all.extend_from_slice(fields);
+    all.sort_by_key(|field| field[0]);
+    all.concat()
 }
 
 /// The fields of a well-formed file.

@@ -12,6 +12,8 @@ pub struct ModelPlan {
     pub devices: BTreeMap<u8, u8>,
     pub links: BTreeMap<u8, Pair>,
     pub paths: BTreeMap<Pair, Vec<u8>>,
+    /// Links from the target back, by initiator and target.
+    pub replies: BTreeMap<Pair, Vec<u8>>,
     /// Span and targets by initiator and slot.
     pub entries: BTreeMap<Pair, (u8, BTreeSet<u8>)>,
     pub intervals: Option<(u32, u32)>,
@@ -58,7 +60,7 @@ impl ModelPlan {
             return Err(2);
         }
         let content = &rest[3..3 + length];
-        if tag == 0 || tag > 6 {
+        if tag == 0 || tag > 7 {
             return Err(3);
         }
         if tag < before || tag == 5 && before == 5 || tag == 6 && before == 6 {
@@ -70,7 +72,8 @@ impl ModelPlan {
             3 => 3..=10,
             4 => 4..=19,
             5 => 8..=8,
-            _ => 22..=22,
+            6 => 22..=22,
+            _ => 3..=10,
         };
         if !allowed.contains(&length) {
             return Err(5);
@@ -86,11 +89,10 @@ impl ModelPlan {
                 return Err(number);
             }
         }
-        if tag == 3 && !self.is_walk(content[0], content[1], &content[2..]) {
+        if self.no_walk(tag, content) {
             return Err(10);
         }
-        let no_path = |target: &u8| !self.paths.contains_key(&(content[0], *target));
-        if tag == 4 && content[3..].iter().any(no_path) {
+        if self.no_path(tag, content) {
             return Err(11);
         }
         Ok((tag, content))
@@ -101,7 +103,7 @@ impl ModelPlan {
         match tag {
             1 => content[0] > 63 || content[1] > 1,
             2 => over(content) || content[1] == content[2],
-            3 => over(content) || content[0] == content[1],
+            3 | 7 => over(content) || content[0] == content[1],
             4 => {
                 let span = content[2];
                 over(&content[..2]) || span == 0 || span > 16 || over(&content[3..])
@@ -127,6 +129,7 @@ impl ModelPlan {
                 let twice = (1..targets.len()).any(|k| targets[..k].contains(&targets[k]));
                 twice || self.entries.contains_key(&(content[0], content[1]))
             }
+            7 => self.replies.contains_key(&(content[0], content[1])),
             _ => false,
         }
     }
@@ -137,7 +140,7 @@ impl ModelPlan {
         let no_link = |link: &u8| !self.links.contains_key(link);
         match tag {
             2 => content[1..].iter().any(no_device),
-            3 => content[..2].iter().any(no_node) || content[2..].iter().any(no_link),
+            3 | 7 => content[..2].iter().any(no_node) || content[2..].iter().any(no_link),
             4 => no_node(&content[0]) || content[3..].iter().any(no_node),
             _ => false,
         }
@@ -152,8 +155,25 @@ impl ModelPlan {
         initiators.len() > 8 || self.paths.len() == 128
     }
 
-    fn is_walk(&self, initiator: u8, target: u8, links: &[u8]) -> bool {
-        let mut met = vec![initiator];
+    fn no_walk(&self, tag: u8, content: &[u8]) -> bool {
+        match tag {
+            3 => !self.is_walk(content[0], content[1], &content[2..]),
+            7 => !self.is_walk(content[1], content[0], &content[2..]),
+            _ => false,
+        }
+    }
+
+    fn no_path(&self, tag: u8, content: &[u8]) -> bool {
+        let none = |target: &u8| !self.paths.contains_key(&(content[0], *target));
+        match tag {
+            4 => content[3..].iter().any(none),
+            7 => none(&content[1]),
+            _ => false,
+        }
+    }
+
+    fn is_walk(&self, from: u8, to: u8, links: &[u8]) -> bool {
+        let mut met = vec![from];
         for link in links {
             let here = *met.last().unwrap();
             let (one, other) = self.links[link];
@@ -168,7 +188,7 @@ impl ModelPlan {
             met.push(next);
         }
         let between = &met[1..met.len() - 1];
-        met.last() == Some(&target) && between.iter().all(|device| self.devices[device] == 1)
+        met.last() == Some(&to) && between.iter().all(|device| self.devices[device] == 1)
     }
 
     fn take(&mut self, tag: u8, content: &[u8]) {
@@ -189,7 +209,11 @@ impl ModelPlan {
                 self.entries.insert(key, (content[2], targets));
             }
             5 => self.intervals = Some(two_intervals(content)),
-            _ => self.times = Some(six_times(content)),
+            6 => self.times = Some(six_times(content)),
+            _ => {
+                let key = (content[0], content[1]);
+                self.replies.insert(key, content[2..].to_vec());
+            }
         }
     }
 
@@ -219,17 +243,25 @@ impl ModelPlan {
         Ok(())
     }
 
-    /// The links in the paths to the targets of this initiator's entries that cover the slot.
+    /// The links in the paths to the targets of this initiator's entries that cover the slot, and in
+    /// the replies.
     fn used(&self, initiator: u8, slot: u8) -> BTreeSet<u8> {
         let mut links = BTreeSet::new();
         for (&(_, stand), (span, targets)) in self.entries.range((initiator, 0)..=(initiator, 63)) {
             if (0..*span).any(|later| (stand + later) % 64 == slot) {
                 for &target in targets {
                     links.extend(&self.paths[&(initiator, target)]);
+                    links.extend(self.way_back(initiator, target));
                 }
             }
         }
         links
+    }
+
+    /// The links that a reply goes over: its own, or those of the path.
+    pub fn way_back(&self, initiator: u8, target: u8) -> &[u8] {
+        let own = self.replies.get(&(initiator, target));
+        own.unwrap_or_else(|| &self.paths[&(initiator, target)])
     }
 
     pub fn initiators(&self) -> BTreeSet<u8> {
@@ -252,8 +284,9 @@ impl ModelPlan {
         let Some([rate, a, d, f, g, slot_length]) = self.times else {
             return length <= 256 * u16::from(span);
         };
-        let routers = self.paths[&(initiator, target)].len() as u128 - 1;
-        let time = time(routers, rate, length.into(), [a, d, f, g]);
+        let command = self.paths[&(initiator, target)].len() as u128 - 1;
+        let reply = self.way_back(initiator, target).len() as u128 - 1;
+        let time = time((command, reply), rate, length.into(), [a, d, f, g]);
         length <= 4_096 && time <= u128::from(span) * slot_length
     }
 
@@ -277,22 +310,30 @@ impl ModelPlan {
         if let Some([rate, times @ ..]) = self.times {
             out.extend(super::times(rate as u16, times.map(|time| time as u32)));
         }
+        for (&(initiator, target), links) in &self.replies {
+            out.extend(super::reply(initiator, target, links));
+        }
         out
     }
 }
 
-/// The time sheet of a path with so many routers.
-pub fn time(routers: u128, rate: u128, length: u128, latencies: [u128; 4]) -> u128 {
-    let mut padded = routers;
+/// The time sheet with so many routers on the command's way and on the reply's.
+pub fn time(
+    (command, reply): (u128, u128),
+    rate: u128,
+    length: u128,
+    latencies: [u128; 4],
+) -> u128 {
+    let mut padded = reply;
     while !padded.is_multiple_of(4) {
         padded += 1;
     }
     let [a, d, f, g] = latencies;
-    let b = 600 * routers;
-    let c = rounded_up(10_000 * (routers + 16 + padded), rate);
+    let b = 600 * command;
+    let c = rounded_up(10_000 * (command + 16 + padded), rate);
     let e = rounded_up(10_000 * (length + 1), rate);
-    let h = 600 * routers;
-    let i = rounded_up(10_000 * (routers + 8), rate);
+    let h = 600 * reply;
+    let i = rounded_up(10_000 * (reply + 8), rate);
     a + b + c + d + e + f + g + h + i
 }
 
@@ -404,6 +445,24 @@ impl Model {
             initiator.live.as_ref().map(|live| (who, live.what.number))
         };
         self.initiators.iter().filter_map(live).collect()
+    }
+
+    /// Whether some link is used by two live transactions, both ways of each counted.
+    pub fn live_ones_share_a_link(&self) -> bool {
+        let mut used = BTreeSet::new();
+        for (&who, initiator) in &self.initiators {
+            let (Some(plan), Some(live)) = (&self.plan, &initiator.live) else {
+                continue;
+            };
+            let mut links: BTreeSet<u8> = BTreeSet::new();
+            links.extend(&plan.paths[&(who, live.what.target)]);
+            links.extend(plan.way_back(who, live.what.target));
+            if !links.is_disjoint(&used) {
+                return true;
+            }
+            used.extend(links);
+        }
+        false
     }
 
     pub fn plan(&self) -> Option<&ModelPlan> {

@@ -1,5 +1,6 @@
--- `write_out` meets its contract: memory with an interval of 0 holds no plan, and of a plan the six kinds of fields are put one behind
+-- `write_out` meets its contract: memory with an interval of 0 holds no plan, and of a plan the seven kinds of fields are put one behind
 -- the other. Assumes nothing.
+use mathlib.Core.Path.{_∙_}
 use mathlib.Core.Logic.{_≢_}
 use borrow.Author.Needs.{needs}
 use borrow.Author.Tests.{not-true, not-false}
@@ -83,12 +84,24 @@ put-timing-requires c κs = search needs
 put-times-requires : tie.Need-put-times-requires
 put-times-requires c κs = search needs
 
+put-paths-requires-2 : tie.Need-put-paths-requires-2
+put-paths-requires-2 c κs = search needs
+
 same-length : tie.Need-same-length
-same-length c = search needs
+same-length c =
+    let y = c .before .before in
+    let x = y .before .before .before .before in
+    let t = x .before .before .before .before in
+    let e = t .before .before .before .before .before .before in
+    let p = e .before .before .before .before .before .before in
+    let l = p .before .before .before .before .before .before in
+    let d = l .before .before .before .before .before in
+    y .put-paths2 .kept .0 ∙ x .put-times .kept .0 ∙ t .put-timing .kept .0 ∙ e .put-entries .kept .0 ∙ p .put-paths .kept .0 ∙ l .put-links .kept .0 ∙ d .put-devices .kept .0
 
 returns-3 : tie.Need-returns-3
 returns-3 c o reach =
-    let x = c .before .before in
+    let y = c .before .before in
+    let x = y .before .before .before .before in
     let t = x .before .before .before .before in
     let e = t .before .before .before .before .before .before in
     let p = e .before .before .before .before .before .before in
@@ -98,7 +111,7 @@ returns-3 c o reach =
     let a = i .before .before .before .before .before .args in
     writes (a .sets .now) (a .ends .now) (a .rows .now) reach (a .paths .now) (a .spans .now) (a .aims .now) (a .numbers .now) (a .out .now) (loaded (i .before .before)) (i .if2 .left)
     (out-puts (a .sets .now) (a .ends .now) (a .rows .now) (a .paths .now) (a .spans .now) (a .aims .now) (a .numbers .now)
-    (d .put-devices .ensures) (l .put-links .ensures) (p .before .at-most .ensures) (p .put-paths .ensures) (e .before .at-most2 .ensures) (e .put-entries .ensures) (t .put-timing .ensures) (x .put-times .ensures)) o
+    (d .put-devices .ensures) (l .put-links .ensures) (p .before .before .at-most .ensures) (p .put-paths .ensures) (e .before .at-most2 .ensures) (e .put-entries .ensures) (t .put-timing .ensures) (x .put-times .ensures) (y .put-paths2 .ensures)) o
 
 pub write-out-spec : {M : Type 1} → statement M
 write-out-spec =
@@ -126,5 +139,6 @@ write-out-spec =
     element-copy-out-put-timing-2
     put-timing-requires
     put-times-requires
+    put-paths-requires-2
     same-length
     returns-3)

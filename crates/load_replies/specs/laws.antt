@@ -1,0 +1,3 @@
+pub mod Asked
+pub mod KeptRow
+pub mod KeptCost
