@@ -1,3 +1,4 @@
 pub mod Taking
+pub mod Routes
 pub mod Heads
 pub mod Stands

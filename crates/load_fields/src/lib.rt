@@ -1,6 +1,6 @@
 // The fields of a file, front to back, up to the first fault: each is judged and then kept in plan memory.
 ghost use mathlib.Core.Path.{_≡_};
-ghost use mathlib.Core.Logic.{_⊎_};
+ghost use mathlib.Core.Logic.{_⊎_, _≢_};
 ghost use mathlib.Core.Bool.{true};
 ghost use mathlib.Core.List.{[]};
 ghost use mathlib.Core.Option.{some};
@@ -11,6 +11,8 @@ ghost use Rattle.rules_plan.specs.Fields.{asTimes, lengthAllowed, itemOf};
 ghost use Rattle.rules_plan.specs.laws.Fair.{Fair};
 ghost use Rattle.memory_plan.specs.Memory.{setsOf, endsOf, rowsOf, reachOf, pathsOf, numbersWith, HoldsSized, Holds};
 ghost use Rattle.memory_plan.specs.Take.{itemFault, taken};
+ghost use Rattle.load_paths.specs.Keep.{PathAsked};
+ghost use Rattle.load_replies.specs.Home.{ReplyAsked};
 ghost use Rattle.load_fields.specs.Fields.{Awaits, Takes, TakesRoute, ReadIn};
 ghost use Rattle.memory_plan.specs.Lent.{atEntry, atExit};
 use bytes_get::four_at;
@@ -22,8 +24,12 @@ use load_entries::entry;
 use load_items::devices::device;
 use load_items::intervals::timing;
 use load_items::links::link;
-use load_paths::path;
-use load_replies::reply;
+use load_path_faults::Asked;
+use load_path_faults::route_fault;
+use load_paths::keep_path;
+use load_paths::path_asked;
+use load_replies::keep_reply;
+use load_replies::reply_asked;
 use load_times::times;
 use memory_plan::layout::*;
 
@@ -53,7 +59,27 @@ fn take_times(content: &[u8], rows: &Rows, paths: &Paths, numbers: &mut Numbers)
     )
 }
 
-// The content of a 03 or a 07, initiator, target and links: its verdict, 0 for none, and then memory has its path or its reply.
+// The route of a 03 or a 07 as its rows ask of it.
+fn asked(
+    tag: u8,
+    rows: &Rows,
+    reach: &Reach,
+    paths: &Paths,
+    numbers: &Numbers,
+    initiator: u8,
+    target: u8,
+) -> Asked
+    ensures { λ r. ⌜ (tag ≡ 3 → PathAsked (now (rows .entry)) (now (reach .entry)) (now (numbers .entry)) initiator target (r .start) (r .end) (r .place) (r .again) (r .many) (r .alone))
+        × (tag ≢ 3 → ReplyAsked (now (paths .entry)) (now (numbers .entry)) initiator target (r .start) (r .end) (r .place) (r .again) (r .many) (r .alone)) ⌝ }
+{
+    if tag == 3 {
+        return path_asked(rows, reach, numbers, initiator, target);
+    }
+    reply_asked(paths, numbers, initiator, target)
+}
+
+// The content of a 03 or a 07, initiator, target and links: its verdict, 0 for none, and then memory has its path or its reply. Both are judged
+// by one call, so that the compiler puts the judging in here.
 fn take_route(
     tag: u8,
     content: &[u8],
@@ -73,20 +99,26 @@ fn take_route(
     let initiator = content[0];
     let target = content[1];
     let links = part(content, 2, content.len() - 2);
+    let a = asked(tag, rows, reach, paths, numbers, initiator, target);
+    let fault = route_fault(sets, ends, a.start, links, a.end, a.again, a.many, a.alone);
+    if fault != 0 {
+        return fault;
+    }
     if tag == 3 {
-        return path(
-            sets,
-            ends,
+        keep_path(
             rows,
             reach,
             paths,
             numbers,
+            a.place,
             initiator,
             target,
             links,
         );
+        return 0;
     }
-    reply(sets, ends, rows, paths, numbers, initiator, target, links)
+    keep_reply(rows, paths, numbers, a.place, initiator, target, links);
+    0
 }
 
 // One field's content, of an allowed length: its verdict 6 to 11, 0 for none, and then memory has its item.

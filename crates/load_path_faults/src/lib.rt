@@ -12,6 +12,16 @@ ghost use Rattle.load_path_faults.specs.Routes.{route, routeFault};
 use load_walks::trace;
 use memory_plan::layout::*;
 
+// A route as its field gives it: where its walk starts and ends, what rows 7, 9 and 11 ask of the field, and the place in memory where that was found.
+pub struct Asked {
+    pub start: u8,
+    pub end: u8,
+    pub place: usize,
+    pub again: bool,
+    pub many: bool,
+    pub alone: bool,
+}
+
 // Verdict 6 of a route, over being whether a link is over 63.
 fn route_range(start: u8, end: u8, over: bool) -> bool
     ensures { λ r. ⌜ ((links : List ℕ) → over ≡ any over63 links → r ≡ routeOutOfRange (route start end links)) ⌝ }

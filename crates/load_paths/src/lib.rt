@@ -1,6 +1,5 @@
-// A path: judged after the plan so far, and put at its place in the order of writing out.
+// A path: what is asked of memory before it is judged; and, without a fault, put at its place in the order of writing out.
 ghost use mathlib.Core.Path.{_≡_};
-ghost use mathlib.Core.List.{[]};
 ghost use mathlib.Core.Bool.{false, _||_};
 ghost use Prim.Native.Nat.{ℕ, _≤_, _<_};
 ghost use lib.ListN.{length};
@@ -8,15 +7,13 @@ ghost use lib.Dec.{leb};
 ghost use lib.Seq.{paste};
 ghost use Rattle.lists.specs.Insert.{moved};
 ghost use Rattle.bitsets.specs.Set.{member};
-ghost use Rattle.rules_plan.specs.Plan.{nth, Plan};
-ghost use Rattle.rules_plan.specs.laws.Fair.{Fair};
-ghost use Rattle.memory_plan.specs.Memory.{setsOf, endsOf, rowsOf, reachOf, pathRow, pathsOf, numbersWith, initiatorsIn, pathsIn};
-ghost use Rattle.memory_plan.specs.Take.{itemFault, taken, pathItem};
+ghost use Rattle.rules_plan.specs.Plan.{nth};
+ghost use Rattle.memory_plan.specs.Memory.{pathRow, initiatorsIn, pathsIn};
 ghost use Rattle.load_path_faults.specs.Routes.{route};
-ghost use Rattle.load_paths.specs.Keep.{keptReach, keptPaths, keptNumbers};
+ghost use Rattle.load_paths.specs.Keep.{PathAsked, keptReach, keptPaths, keptNumbers};
 ghost use Rattle.memory_plan.specs.Rows.{rowAmong};
 ghost use Rattle.load_path_places.specs.Places.{withRow, IsPlace};
-use load_path_faults::route_fault;
+use load_path_faults::Asked;
 use load_path_places::own_row;
 use load_path_places::place_of;
 use memory_plan::layout::*;
@@ -55,8 +52,8 @@ pub fn store_path(paths: &mut Paths, at: usize, initiator: u8, target: u8, links
     }
 }
 
-// Keeps a path that has no fault.
-fn keep_path(
+// Keeps a path that has no fault: no entry, no times and no reply are there yet.
+pub fn keep_path(
     rows: &mut Rows,
     reach: &mut Reach,
     paths: &mut Paths,
@@ -104,36 +101,17 @@ fn too_many(numbers: &Numbers, row: usize) -> bool
     MOST_PATHS as u32 <= numbers[PATHS]
 }
 
-// The verdict on the path, 0 for none, and then rows, reach, paths and numbers have it. No entry, no times and no reply are there yet, and a
-// path has eight links at most.
-pub fn path(
-    sets: &Sets,
-    ends: &Ends,
-    rows: &mut Rows,
-    reach: &mut Reach,
-    paths: &mut Paths,
-    numbers: &mut Numbers,
-    initiator: u8,
-    target: u8,
-    links: &[u8],
-) -> u8
-    requires { ⌜ length (now links) ≤ 8 ⌝ }
-    ensures { λ r. ⌜ ((size : ℕ) (p : Plan) → Fair p → now (sets .entry) ≡ setsOf p → now (ends .entry) ≡ endsOf p →
-        now (rows .entry) ≡ rowsOf p → now (reach .entry) ≡ reachOf p → now (paths .entry) ≡ pathsOf p → now (numbers .entry) ≡ numbersWith size p →
-        p .times ≡ [] → p .replies ≡ [] →
-        (r ≡ itemFault p (pathItem initiator target (now (links .entry))))
-        × (now (rows .exit) ≡ rowsOf (taken p (pathItem initiator target (now (links .entry)))))
-        × (now (reach .exit) ≡ reachOf (taken p (pathItem initiator target (now (links .entry)))))
-        × (now (paths .exit) ≡ pathsOf (taken p (pathItem initiator target (now (links .entry)))))
-        × (now (numbers .exit) ≡ numbersWith size (taken p (pathItem initiator target (now (links .entry)))))) ⌝ }
+// What rows 7, 9 and 11 ask of a path, from initiator to target; its place is the row of its initiator.
+pub fn path_asked(rows: &Rows, reach: &Reach, numbers: &Numbers, initiator: u8, target: u8) -> Asked
+    ensures { λ r. ⌜ PathAsked (now (rows .entry)) (now (reach .entry)) (now (numbers .entry)) initiator target (r .start) (r .end) (r .place) (r .again) (r .many) (r .alone) ⌝ }
 {
     let row = row_among(rows, numbers[INITIATORS], initiator);
-    let again = reaches(reach, row, target);
-    let many = too_many(numbers, row);
-    let fault = route_fault(sets, ends, initiator, links, target, again, many, false);
-    if fault != 0 {
-        return fault;
+    Asked {
+        start: initiator,
+        end: target,
+        place: row,
+        again: reaches(reach, row, target),
+        many: too_many(numbers, row),
+        alone: false,
     }
-    keep_path(rows, reach, paths, numbers, row, initiator, target, links);
-    0
 }

@@ -1,13 +1,13 @@
-// A reply that comes home another way: judged after the plan so far, and kept in a row behind that of its path, with the fixed time of its pair.
+// A reply that comes home another way: what is asked of memory before it is judged; and, without a fault, kept in a row behind that of its path, with
+// the fixed time of its pair.
 ghost use mathlib.Core.Path.{_≡_};
 ghost use Prim.Native.Nat.{ℕ, _≤_, _<_};
 ghost use lib.ListN.{length};
-ghost use Rattle.rules_plan.specs.Plan.{Plan};
-ghost use Rattle.rules_plan.specs.laws.Fair.{Fair};
-ghost use Rattle.memory_plan.specs.Memory.{setsOf, endsOf, rowsOf, pathsOf, numbersWith};
-ghost use Rattle.memory_plan.specs.Take.{itemFault, taken, replyItem};
-ghost use Rattle.load_replies.specs.Home.{hasRow, HomeOf};
-use load_path_faults::route_fault;
+ghost use Rattle.rules_plan.specs.Plan.{Route, Plan, reply, grow};
+ghost use Rattle.memory_plan.specs.Memory.{rowsOf, pathsOf, numbersWith};
+ghost use Rattle.load_path_faults.specs.Routes.{route};
+ghost use Rattle.load_replies.specs.Home.{hasRow, ReplyAsked, HomeTo, HomeOf};
+use load_path_faults::Asked;
 use load_path_places::path_of;
 use load_paths::store_path;
 use memory_plan::at_most;
@@ -61,33 +61,38 @@ fn put_home(
     numbers[COSTS + row * SLOTS + target as usize] = cost(out, home, rate, a, d, f, g);
 }
 
-// The verdict on the reply, 0 for none, and then paths and numbers have it. Its links lead from the target to the initiator, and are eight at
-// most.
-pub fn reply(
-    sets: &Sets,
-    ends: &Ends,
-    rows: &Rows,
-    paths: &mut Paths,
-    numbers: &mut Numbers,
-    initiator: u8,
-    target: u8,
-    links: &[u8],
-) -> u8
-    requires { ⌜ length (now links) ≤ 8 ⌝ }
-    ensures { λ r. ⌜ ((size : ℕ) (p : Plan) → Fair p → now (sets .entry) ≡ setsOf p → now (ends .entry) ≡ endsOf p → now (rows .entry) ≡ rowsOf p →
-        now (paths .entry) ≡ pathsOf p → now (numbers .entry) ≡ numbersWith size p →
-        (r ≡ itemFault p (replyItem initiator target (now (links .entry))))
-        × (now (paths .exit) ≡ pathsOf (taken p (replyItem initiator target (now (links .entry)))))
-        × (now (numbers .exit) ≡ numbersWith size (taken p (replyItem initiator target (now (links .entry)))))) ⌝ }
+// What rows 7, 9 and 11 ask of a reply, which starts at the target; its place is that of its path.
+pub fn reply_asked(paths: &Paths, numbers: &Numbers, initiator: u8, target: u8) -> Asked
+    ensures { λ r. ⌜ ReplyAsked (now (paths .entry)) (now (numbers .entry)) initiator target (r .start) (r .end) (r .place) (r .again) (r .many) (r .alone) ⌝ }
 {
     let count = at_most(numbers[PATHS], MOST_PATHS);
     let k = path_of(paths, count, initiator, target);
-    let again = has_reply(paths, k);
-    let alone = k == MOST_PATHS;
-    let fault = route_fault(sets, ends, target, links, initiator, again, false, alone);
-    if fault != 0 {
-        return fault;
+    Asked {
+        start: target,
+        end: initiator,
+        place: k,
+        again: has_reply(paths, k),
+        many: false,
+        alone: k == MOST_PATHS,
     }
+}
+
+// Keeps a reply that has no fault behind its path at place k, and the fixed time of its pair.
+pub fn keep_reply(
+    rows: &Rows,
+    paths: &mut Paths,
+    numbers: &mut Numbers,
+    k: usize,
+    initiator: u8,
+    target: u8,
+    links: &[u8],
+)
+    requires { ⌜ (k < 128) × (length (now links) ≤ 8) ⌝ }
+    ensures { λ _. ⌜ ((size : ℕ) (p : Plan) (x : Route) → HomeTo p (route target initiator (now (links .entry))) x k →
+        now (rows .entry) ≡ rowsOf p → now (paths .entry) ≡ pathsOf p → now (numbers .entry) ≡ numbersWith size p →
+        (now (paths .exit) ≡ pathsOf (grow p (reply (route target initiator (now (links .entry))))))
+        × (now (numbers .exit) ≡ numbersWith size (grow p (reply (route target initiator (now (links .entry))))))) ⌝ }
+{
     put_home(
         rows,
         paths,
@@ -98,5 +103,4 @@ pub fn reply(
         links.len() as u8,
     );
     store_path(paths, (REPLIES + k) * PATH, initiator, target, links);
-    0
 }
