@@ -2,12 +2,11 @@
 use mathlib.Core.Path.{_≡_, sym, ap, _∙_}
 use mathlib.Core.Logic.{_≢_}
 use mathlib.Core.List.{List}
-use mathlib.Core.Bool.{Bool, _||_}
-use Prim.Native.Nat.{ℕ, _≤_, _<_}
+use mathlib.Core.Bool.{Bool, false}
+use Prim.Native.Nat.{ℕ, _<_}
 use native.Mathlib.Omega.{arith}
 use lib.Dec.{leb}
 use borrow.Author.Tests.{leb-false, eqb-false}
-use mathlib.Core.Bool.{false}
 use Rattle.lists.specs.laws.Bools.{neither}
 use Rattle.rules_plan.specs.Plan.{nth, Plan, Item}
 use Rattle.rules_plan.specs.laws.Fair.{Fair}

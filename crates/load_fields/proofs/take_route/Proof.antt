@@ -1,7 +1,6 @@
 -- `fields::take_route` meets its contract: what is read of the content is the route of the item, a path or a reply. Assumes nothing.
 use mathlib.Core.Path.{_≡_, refl, sym, ap, _∙_}
 use mathlib.Core.Logic.{_⊎_, inl, inr}
-use mathlib.Core.List.{List}
 use mathlib.Core.Option.{some}
 use Prim.Native.Nat.{ℕ, _≤_}
 use native.Mathlib.Omega.{arith}
@@ -9,7 +8,7 @@ use lib.ListN.{length, drop, length-drop}
 use borrow.Author.Needs.{needs}
 use Rattle.lists.specs.Search.{find}
 use Rattle.lists.specs.laws.Parts.{from-to-end}
-use Rattle.rules_plan.specs.Plan.{nth, Plan, Item, reply}
+use Rattle.rules_plan.specs.Plan.{nth, Item, reply}
 use Rattle.rules_plan.specs.Fields.{tags, tagOf, itemOf, asPath, asReply}
 use Rattle.rules_plan.specs.laws.Items.{no-times, no-replies}
 use Rattle.memory_plan.specs.Memory.{pathsOf, numbersWith}

@@ -1,7 +1,6 @@
 -- The verdict on a path and on a reply is that on its route; what rows 7, 9 and 11 answer counts only where row 6 does not hold.
 use mathlib.Core.Path.{_≡_, refl}
 use mathlib.Core.Bool.{Bool, true, false, not}
-use Prim.Native.Nat.{ℕ}
 use Rattle.lists.specs.Rows.{firstOf}
 use Rattle.rules_plan.specs.Plan.{Route, Plan, path, reply}
 use Rattle.rules_plan.specs.Meaning.{hasRoute, hasPath}

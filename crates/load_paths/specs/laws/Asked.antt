@@ -1,13 +1,13 @@
 -- What rows 7 and 9 ask of a path, read off the memory of a fair plan; and so the verdict on it.
 use mathlib.Core.Path.{_≡_, refl, sym, ap, _∙_}
 use mathlib.Core.List.{List}
-use mathlib.Core.Bool.{Bool, true, false, not, _&&_, _||_, and-false}
+use mathlib.Core.Bool.{Bool, false, not, _&&_, _||_}
 use Prim.Native.Nat.{ℕ, _≤_, _<_}
 use native.Mathlib.Decide.{decLt}
 use native.Mathlib.Omega.{arith}
 use lib.ListN.{length}
 use lib.Dec.{leb}
-use borrow.Author.Tests.{le-leb, lt-leb}
+use borrow.Author.Tests.{lt-leb}
 use Rattle.lists.specs.laws.At.{at-member}
 use Rattle.bitsets.specs.Set.{member}
 use Rattle.rules_plan.specs.Plan.{nth, Route, Plan, path}

@@ -2,12 +2,11 @@
 use mathlib.Core.Path.{_≡_, refl, sym, ap, _∙_}
 use mathlib.Core.List.{List, [], _∷_, _++_, List·Memᴰ, List·Memᴰ·head}
 use mathlib.Core.Option.{some, Option·getD}
-use mathlib.Core.Bool.{true, false}
+use mathlib.Core.Bool.{true}
 use Prim.Native.Nat.{ℕ, _+_, _-_, _*_, _<_}
 use native.Mathlib.Decide.{decLt}
 use native.Mathlib.Omega.{arith}
 use lib.ListN.{length, set}
-use lib.Dec.{eqb}
 use borrow.Author.Tests.{eq-eqb}
 use Rattle.lists.specs.Search.{find}
 use Rattle.lists.specs.Place.{atPlace}
@@ -24,7 +23,7 @@ use Rattle.rules_plan.specs.Judge.{outOfRange, givenBefore}
 use Rattle.rules_plan.specs.Good.{samePathEnds}
 use Rattle.rules_plan.specs.laws.Items.{times-in}
 use Rattle.rules_plan.specs.laws.InRange.{path-ranged}
-use Rattle.memory_plan.specs.Memory.{rowsOf, ofRow, pathsInOrder, pathsOf, costOf, costsAmong, costsOf, numbersWith}
+use Rattle.memory_plan.specs.Memory.{rowsOf, ofRow, pathsOf, costOf, costsAmong, costsOf, numbersWith}
 use Rattle.memory_plan.specs.Rows.{rowAmong}
 use Rattle.memory_plan.specs.laws.Among.{row-place, row-none}
 use Rattle.memory_plan.specs.laws.Costs.{no-costs, costs-home}
