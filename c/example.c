@@ -84,6 +84,18 @@ static void request(spwd_box *box, uint8_t initiator, uint8_t target, uint8_t ki
     }
 }
 
+/* When such a request may start, counted from a slot. */
+static void next(const spwd_box *box, uint8_t initiator, uint8_t target, uint16_t length, uint8_t slot)
+{
+    spwd_turn turn = spwd_next(box, initiator, target, length, slot);
+    printf("next turn of %u to %u, %u bytes, from slot %u: ", (unsigned)initiator, (unsigned)target, (unsigned)length, (unsigned)slot);
+    if (turn.number == SPWD_TAKEN) {
+        printf("count %lu\n", (unsigned long)turn.count);
+    } else {
+        printf("refused %lu\n", (unsigned long)turn.number);
+    }
+}
+
 static void reply(spwd_box *box, uint8_t initiator, uint16_t transaction, uint8_t status)
 {
     spwd_answer answer = spwd_reply(box, initiator, transaction, status);
@@ -120,11 +132,14 @@ static uint32_t after_the_last(uint8_t value)
     }
 }
 
-/* What happens between the time-code of this value and the next. The reading after 39 reports that 40 is late, so 40 does not. */
+/* What happens between the time-code of this value and the next. What is asked for after 62 starts at the second time-code, as the count
+ * of its next turn says. The reading after 39 reports that 40 is late, so 40 does not. */
 static void between(spwd_box *box, uint8_t value, uint32_t clock)
 {
     switch (value) {
     case 62:
+        next(box, 1, 3, 100, value);
+        next(box, 1, 3, 100, SPWD_SLOTS);
         request(box, 1, 3, SPWD_READ, 100);
         request(box, 1, 3, SPWD_WRITE, 256);
         request(box, 1, 3, SPWD_READ, 257);
@@ -132,6 +147,7 @@ static void between(spwd_box *box, uint8_t value, uint32_t clock)
         request(box, 2, 4, SPWD_WRITE, 0);
         break;
     case 0:
+        next(box, 1, 3, 256, value);
         reply(box, 1, 7, 0);
         reply(box, 1, 0, 0);
         reply(box, 1, 0, 0);

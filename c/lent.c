@@ -1,7 +1,7 @@
 /* lent FILE..: every array of a box lent by itself, from malloc and so with nothing stored in it before the clear; then each file loaded,
- * and some events, writing out into rooms of many sizes, and the reread; and sheets, the arrays of which are lent in the same way. For
- * valgrind: no byte may be read that nothing was stored to, and none outside an array. The status is 1 if the box is not blank after the
- * clear, or does not hold the file that it accepted, or a sheet is not refused where it should be. */
+ * and next turns, some events, writing out into rooms of many sizes, and the reread; and sheets, the arrays of which are lent in the same
+ * way. For valgrind: no byte may be read that nothing was stored to, and none outside an array. The status is 1 if the box is not blank
+ * after the clear, or does not hold the file that it accepted, or a next turn or a sheet is not refused where it should be. */
 #include "spwd_raw.h"
 
 #include <stdio.h>
@@ -20,11 +20,26 @@ static void *room(size_t size) {
 }
 
 static struct plan lend(void) {
-    return (struct plan){room(24), room(64), room(4096), room(128), room(8), room(2816), room(512), room(2096)};
+    return (struct plan){room(24), room(64), room(9216), room(128), room(8), room(2816), room(512), room(2096)};
 }
 
 static void take_back(struct plan p) {
     free(p.sets), free(p.reach), free(p.aims), free(p.ends), free(p.rows), free(p.paths), free(p.spans), free(p.numbers);
+}
+
+/* Whether a next turn is a count of 1 to 64, and of a slot over 63 there is none; or refused with 0, without a plan with 20. */
+static int turns(struct plan p, int held) {
+    uint32_t *answer = room(8), n = 0;
+    int right = 1;
+    for (uint8_t i = 0; i < 64; i++)
+        for (uint8_t t = 0; t < 64; t++)
+            for (uint8_t slot = 0; slot < 70; slot = (uint8_t)(slot + 5)) {
+                spwd_c_next(p.rows, p.aims, p.numbers, i, t, (uint16_t)(n++ * 97 % 5000), slot, answer);
+                right = right && (answer[0] == 20) == !held;
+                right = right && (answer[0] == 0 ? slot < 64 && answer[1] >= 1 && answer[1] <= 64 : answer[1] == 0);
+            }
+    free(answer);
+    return right;
 }
 
 static void events(struct plan p, uint64_t *run, uint8_t *last, spwd_watchdog *five, uint32_t *answer) {
@@ -32,7 +47,7 @@ static void events(struct plan p, uint64_t *run, uint8_t *last, spwd_watchdog *f
     for (uint32_t n = 0; n < 300; n++) {
         for (uint8_t i = 0; i < 64; i++)
             for (uint8_t t = 0; t < 64; t = (uint8_t)(t + 3))
-                spwd_c_request(p.rows, p.spans, p.aims, p.numbers, run, i, t, (uint8_t)(n % 3), (uint16_t)(n * 97 % 5000), answer);
+                spwd_c_request(p.rows, p.aims, p.numbers, run, i, t, (uint8_t)(n % 3), (uint16_t)(n * 97 % 5000), answer);
         spwd_c_time_code(p.spans, p.aims, p.numbers, run, last, five, (uint8_t)(n % 66), n * 100, records, n % 50 == 0 ? 135 : 136, answer);
         for (uint8_t i = 0; i < 64; i++) spwd_c_reply(p.rows, p.numbers, run, i, (uint16_t)(n / 2), (uint8_t)(n % 20), answer);
         spwd_c_reading(p.numbers, five, n * 101, answer);
@@ -82,6 +97,7 @@ int main(int count, char **names) {
         struct plan other = lend();
         spwd_c_load(file, size, p.sets, p.ends, p.rows, p.reach, p.paths, p.spans, p.aims, p.numbers, run, last, five, verdict);
         fwrite(line, 1, spwd_c_print(verdict, line), stdout);
+        if (!turns(p, verdict[0] == 0)) return 1;
         events(p, run, last, five, answer);
         write_out(p, answer);
         uint32_t held = spwd_c_holds(file, size, p.sets, p.ends, p.rows, p.reach, p.paths, p.spans, p.aims, p.numbers, other.sets,

@@ -33,7 +33,7 @@
 /* ---- the version of this interface: one more with each change of what is lent, of the numbers that calls take and give back, or of
  * the bytes of a plan file or a record */
 
-#define SPWD_VERSION 4
+#define SPWD_VERSION 5
 
 /* ---- sizes */
 
@@ -82,20 +82,21 @@ typedef enum spwd_verdict_number {
     SPWD_NO_ENTRY = 15           /* file length */
 } spwd_verdict_number;
 
-/* Refusals of events and of writing out. */
+/* Refusals of events, of the next turn and of writing out. */
 typedef enum spwd_refusal {
     SPWD_TAKEN = 0,              /* not refused */
-    SPWD_NO_PLAN = 20,           /* every event, writing out */
+    SPWD_NO_PLAN = 20,           /* every event, next turn, writing out */
     SPWD_UPPER_BITS = 21,        /* time-code */
-    SPWD_NO_INITIATOR = 22,      /* request, reply */
+    SPWD_NO_INITIATOR = 22,      /* request, reply, next turn */
     SPWD_UNKNOWN_KIND = 23,      /* request */
-    SPWD_LENGTH_OVER_MOST = 24,  /* request */
-    SPWD_NOT_PERMITTED = 25,     /* request: 256 bytes for each slot of a span, or what the plan's times allow */
+    SPWD_LENGTH_OVER_MOST = 24,  /* request, next turn */
+    SPWD_NOT_PERMITTED = 25,     /* request, next turn: 256 bytes for each slot of a span, or what the plan's times allow */
     SPWD_LINE_FULL = 26,         /* request */
     SPWD_NOTHING_LIVE = 27,      /* reply */
     SPWD_OTHER_TRANSACTION = 28, /* reply */
     SPWD_SMALL_BUFFER = 29,      /* time-code */
-    SPWD_SMALL_ROOM = 30         /* writing out */
+    SPWD_SMALL_ROOM = 30,        /* writing out */
+    SPWD_SLOT_OVER_MOST = 33     /* next turn */
 } spwd_refusal;
 
 /* Kinds of records. */
@@ -114,7 +115,7 @@ typedef enum spwd_status_class { SPWD_SUCCESS = 0, SPWD_ERROR = 1, SPWD_RESERVED
 
 /* ---- memory that the caller lends */
 
-/* Plan memory: 9,744 bytes. */
+/* Plan memory: 14,864 bytes. */
 typedef struct spwd_plan {
     uint64_t sets[3];
     uint8_t ends[128];
@@ -122,11 +123,11 @@ typedef struct spwd_plan {
     uint64_t reach[8];
     uint8_t paths[2816]; /* 128 rows of 11 bytes for the paths, and as many for the replies */
     uint8_t spans[512];
-    uint64_t aims[512];
+    uint64_t aims[1152]; /* 512 for the targets of the entries; 512 and 128 for where turns are: slots by target and by span */
     uint32_t numbers[524];
 } spwd_plan;
 
-/* One box: all memory that it needs, 10,536 bytes. Only `watchdog` is for the caller to read and write. */
+/* One box: all memory that it needs, 15,656 bytes. Only `watchdog` is for the caller to read and write. */
 typedef struct spwd_box {
     spwd_plan plan;
     uint64_t run[96];
@@ -152,6 +153,12 @@ typedef struct spwd_answer {
     uint32_t status_class; /* a spwd_status_class */
     uint32_t reading;      /* a clock reading: 1 if it reports lateness */
 } spwd_answer;
+
+/* SPWD_TAKEN and how many slots on the next turn is, 1 to SPWD_SLOTS; or a refusal's number and 0. */
+typedef struct spwd_turn {
+    uint32_t number; /* a spwd_refusal */
+    uint32_t count;
+} spwd_turn;
 
 /* SPWD_TAKEN and the size, or a refusal's number and 0. */
 typedef struct spwd_written {
@@ -208,9 +215,9 @@ typedef struct spwd_record {
 
 SPWD_HOLDS(sizes_of_64_bits, sizeof(size_t) == 8 && sizeof(void *) == 8);
 SPWD_HOLDS(records_room, SPWD_RECORDS_ROOM == 136);
-SPWD_HOLDS(plan_without_gaps, sizeof(spwd_plan) == 9744);
-SPWD_HOLDS(box_without_gaps_but_at_its_end, offsetof(spwd_box, last) == 9744 + 768 + 20);
-SPWD_HOLDS(box_size, sizeof(spwd_box) == 10536);
+SPWD_HOLDS(plan_without_gaps, sizeof(spwd_plan) == 14864);
+SPWD_HOLDS(box_without_gaps_but_at_its_end, offsetof(spwd_box, last) == 14864 + 768 + 20);
+SPWD_HOLDS(box_size, sizeof(spwd_box) == 15656);
 
 /* ---- the box */
 
@@ -291,7 +298,7 @@ SPWD_MUST_LOOK static inline spwd_answer spwd_request(spwd_box *box, uint8_t ini
 {
     const spwd_plan *plan = &box->plan;
     uint32_t answer[8];
-    spwd_c_request(plan->rows, plan->spans, plan->aims, plan->numbers, box->run, initiator, target, kind, length, answer);
+    spwd_c_request(plan->rows, plan->aims, plan->numbers, box->run, initiator, target, kind, length, answer);
     return spwd_answer_of(answer);
 }
 
@@ -314,6 +321,23 @@ SPWD_MUST_LOOK static inline spwd_answer spwd_reading(spwd_box *box, uint32_t cl
     uint32_t answer[8];
     spwd_c_reading(box->plan.numbers, &box->watchdog, clock, answer);
     return spwd_answer_of(answer);
+}
+
+/* Answers how many slots after this one the next turn is: the next slot at which an entry of the initiator stands that permits the target
+ * with this length. 1 is the slot after it, SPWD_SLOTS that slot again. Only the plan is asked, not what waits or is live.
+ * With the slot of the last time-code taken since the load, if there was one: a request that is taken now, into an empty line, starts at
+ * the count-th time-code from here, if all of them are in sequence.
+ * Refusals: SPWD_NO_PLAN, SPWD_NO_INITIATOR, SPWD_LENGTH_OVER_MOST, SPWD_NOT_PERMITTED, SPWD_SLOT_OVER_MOST (slot from SPWD_SLOTS on).
+ * Left as it was: everything. */
+SPWD_MUST_LOOK static inline spwd_turn spwd_next(const spwd_box *box, uint8_t initiator, uint8_t target, uint16_t length, uint8_t slot)
+{
+    const spwd_plan *plan = &box->plan;
+    spwd_turn turn;
+    uint32_t answer[2];
+    spwd_c_next(plan->rows, plan->aims, plan->numbers, initiator, target, length, slot, answer);
+    turn.number = answer[0];
+    turn.count = answer[1];
+    return turn;
 }
 
 /* Writes the plan out as a file, in canonical order, and answers its size (at most SPWD_WRITTEN_MOST).

@@ -25,30 +25,32 @@ extern "C" {
 
 uint32_t spwd_c_version(void);
 void spwd_c_clear(uint64_t sets[3], uint8_t ends[128], uint8_t rows[8], uint64_t reach[8], uint8_t paths[2816], uint8_t spans[512],
-                  uint64_t aims[512], uint32_t numbers[524], uint64_t run[96], uint8_t last[1], spwd_watchdog *watchdog);
+                  uint64_t aims[1152], uint32_t numbers[524], uint64_t run[96], uint8_t last[1], spwd_watchdog *watchdog);
 void spwd_c_load(const uint8_t *file, size_t size, uint64_t sets[3], uint8_t ends[128], uint8_t rows[8], uint64_t reach[8],
-                 uint8_t paths[2816], uint8_t spans[512], uint64_t aims[512], uint32_t numbers[524], uint64_t run[96], uint8_t last[1],
+                 uint8_t paths[2816], uint8_t spans[512], uint64_t aims[1152], uint32_t numbers[524], uint64_t run[96], uint8_t last[1],
                  spwd_watchdog *watchdog, uint32_t verdict[5]);
-void spwd_c_time_code(const uint8_t spans[512], const uint64_t aims[512], const uint32_t numbers[524], uint64_t run[96], uint8_t last[1],
+void spwd_c_time_code(const uint8_t spans[512], const uint64_t aims[1152], const uint32_t numbers[524], uint64_t run[96], uint8_t last[1],
                       spwd_watchdog *watchdog, uint8_t byte, uint32_t clock, uint8_t *records, size_t room, uint32_t answer[8]);
-void spwd_c_request(const uint8_t rows[8], const uint8_t spans[512], const uint64_t aims[512], const uint32_t numbers[524],
-                    uint64_t run[96], uint8_t initiator, uint8_t target, uint8_t kind, uint16_t length, uint32_t answer[8]);
+void spwd_c_request(const uint8_t rows[8], const uint64_t aims[1152], const uint32_t numbers[524], uint64_t run[96], uint8_t initiator,
+                    uint8_t target, uint8_t kind, uint16_t length, uint32_t answer[8]);
 void spwd_c_reply(const uint8_t rows[8], const uint32_t numbers[524], uint64_t run[96], uint8_t initiator, uint16_t transaction,
                   uint8_t status, uint32_t answer[8]);
 void spwd_c_reading(const uint32_t numbers[524], spwd_watchdog *watchdog, uint32_t clock, uint32_t answer[8]);
+void spwd_c_next(const uint8_t rows[8], const uint64_t aims[1152], const uint32_t numbers[524], uint8_t initiator, uint8_t target,
+                 uint16_t length, uint8_t slot, uint32_t answer[2]);
 void spwd_c_write_out(const uint64_t sets[3], const uint8_t ends[128], const uint8_t rows[8], const uint8_t paths[2816],
-                      const uint8_t spans[512], const uint64_t aims[512], const uint32_t numbers[524], uint8_t *out, size_t room,
+                      const uint8_t spans[512], const uint64_t aims[1152], const uint32_t numbers[524], uint8_t *out, size_t room,
                       uint32_t answer[2]);
 size_t spwd_c_print(const uint32_t verdict[5], uint8_t line[40]);
 void spwd_c_sheet(uint8_t command_routers, uint8_t reply_routers, uint16_t rate, uint16_t length, const uint32_t latencies[4],
                   uint32_t answer[7]);
 uint32_t spwd_c_is_blank(const uint64_t sets[3], const uint8_t ends[128], const uint8_t rows[8], const uint64_t reach[8],
-                         const uint8_t paths[2816], const uint8_t spans[512], const uint64_t aims[512], const uint32_t numbers[524],
+                         const uint8_t paths[2816], const uint8_t spans[512], const uint64_t aims[1152], const uint32_t numbers[524],
                          const uint64_t run[96], const uint8_t last[1], const spwd_watchdog *watchdog);
 uint32_t spwd_c_holds(const uint8_t *file, size_t size, const uint64_t sets[3], const uint8_t ends[128], const uint8_t rows[8],
-                      const uint64_t reach[8], const uint8_t paths[2816], const uint8_t spans[512], const uint64_t aims[512],
+                      const uint64_t reach[8], const uint8_t paths[2816], const uint8_t spans[512], const uint64_t aims[1152],
                       const uint32_t numbers[524], uint64_t other_sets[3], uint8_t other_ends[128], uint8_t other_rows[8],
-                      uint64_t other_reach[8], uint8_t other_paths[2816], uint8_t other_spans[512], uint64_t other_aims[512],
+                      uint64_t other_reach[8], uint8_t other_paths[2816], uint8_t other_spans[512], uint64_t other_aims[1152],
                       uint32_t other_numbers[524]);
 
 #ifdef __cplusplus

@@ -1,10 +1,12 @@
 //! The proved library beside the reference, in one run: nanoseconds for one call, the least of many rounds, the two sides by turns.
-//! Before a file is timed, both must print the same verdict on it and write the same bytes out; no event that is timed is refused.
+//! Before a file is timed, both must print the same verdict on it, write the same bytes out and name the same turns; no event that is
+//! timed is refused but where its row says so.
 //! Below the times stands what memory a box of each kind has.
 
 mod events;
 mod sides;
 mod timing;
+mod turns;
 
 use compare::large;
 use sides::{Proved, Reference, Side};
@@ -30,6 +32,7 @@ fn main() {
     );
     write_out("write out a maximal plan, with replies", &replied);
     events::print_events(&maximal);
+    turns::print_turns(&maximal);
     clear();
     print_memory();
 }
@@ -67,7 +70,7 @@ fn loads(plan_a: &[u8], plan_a_overrun: &[u8], maximal: &[u8], replied: &[u8]) {
     );
 }
 
-/// A box of each kind with the file loaded, and the verdict. They must agree on it, and on the plan written out.
+/// A box of each kind with the file loaded, and the verdict. They must agree on it, on the plan written out, and on the next turns.
 fn loaded(file: &[u8]) -> (Proved, Reference, String) {
     let (mut ours, mut theirs) = (Proved::new(), Reference::new());
     let verdict = ours.line(file);
@@ -76,7 +79,21 @@ fn loaded(file: &[u8]) -> (Proved, Reference, String) {
     let sizes = (ours.write_out(&mut out), theirs.write_out(&mut their_out));
     assert_eq!(sizes.0, sizes.1, "the sizes written out differ");
     assert!(out == their_out, "the plans written out differ");
+    same_turns(&ours, &theirs);
     (ours, theirs, verdict.trim_end().to_owned())
+}
+
+/// Of every initiator that a plan here has to every target, around the length that one slot has room for, from slots at both ends.
+fn same_turns(ours: &Proved, theirs: &Reference) {
+    for (initiator, target) in (0..9).flat_map(|one| (0..65).map(move |other| (one, other))) {
+        for length in [0, 255, 256, 257, 4_096, 4_097] {
+            for slot in [0, 1, 31, 62, 63, 64] {
+                let turn = ours.next(initiator, target, length, slot);
+                let their_turn = theirs.next(initiator, target, length, slot);
+                assert_eq!(turn, their_turn, "the next turns differ");
+            }
+        }
+    }
 }
 
 /// A plan, and the same with times.

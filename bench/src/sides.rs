@@ -17,6 +17,8 @@ pub trait Side {
     fn request(&mut self, initiator: u8, target: u8, kind: u8, length: u16) -> u8;
     fn reply(&mut self, initiator: u8, transaction: u16, status: u8) -> u8;
     fn reading(&mut self, clock: u32) -> u8;
+    /// And the count.
+    fn next(&self, initiator: u8, target: u8, length: u16, slot: u8) -> (u8, u8);
 }
 
 /// The proved library.
@@ -73,6 +75,11 @@ impl Side for Proved {
 
     fn reading(&mut self, clock: u32) -> u8 {
         number(self.spwd.reading(clock))
+    }
+
+    fn next(&self, initiator: u8, target: u8, length: u16, slot: u8) -> (u8, u8) {
+        let answer = self.spwd.next(initiator, target, length, slot);
+        (number(answer), answer.unwrap_or(0))
     }
 }
 
@@ -145,5 +152,9 @@ impl Side for Reference {
 
     fn reading(&mut self, clock: u32) -> u8 {
         self.step(Event::Reading { clock }).number()
+    }
+
+    fn next(&self, initiator: u8, target: u8, length: u16, slot: u8) -> (u8, u8) {
+        self.unit.next(initiator, target, length, slot)
     }
 }

@@ -11,6 +11,7 @@ use Rattle.box_promises.proofs.Says.{words-of-the-box}
 use Rattle.box_promises.proofs.Links.{links-never-shared}
 use Rattle.box_promises.proofs.Between.{not-even-between}
 use Rattle.box_promises.proofs.InTime.{requests-start-in-time}
+use Rattle.box_promises.proofs.AtTurn.{next-of-the-rules, starts-at-its-turn}
 use Rattle.box_promises.proofs.Entries.{starts-only-at-entries, once-per-visit}
 use Rattle.box_promises.proofs.Ends.{live-by-record-only, ends-by-reply-or-record, none-still-live}
 
@@ -29,6 +30,8 @@ promised p b = let ok = p .sound in record {
   links = links-never-shared ok (b .links);
   between = not-even-between ok (b .as-told);
   in-time = requests-start-in-time ok (b .in-time) (b .this-one);
+  next = next-of-the-rules ok;
+  at-turn = starts-at-its-turn ok (b .at-turn) (b .this-one);
   entries = starts-only-at-entries ok (b .entries);
   once = once-per-visit ok (b .once);
   live = live-by-record-only ok (b .live);

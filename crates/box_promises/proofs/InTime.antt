@@ -32,8 +32,8 @@ use Rattle.rules_box.specs.Promises as box
 use Rattle.rules_box.specs.laws.Steps.{step-accepted, side-changed}
 use Rattle.rules_box.specs.laws.Fit.{FitRequest}
 use Rattle.memory_run.specs.Run.{wordOf}
-use Rattle.box_calls.specs.Calls.{Memory, StepLeaves, Came, by-event, Done, Follow, nothing, then}
-use Rattle.box_promises.specs.Words.{lineIn, numberOf, InSequence, timeCodes, AllInSequence}
+use Rattle.box_calls.specs.Calls.{Memory, Lent, StepLeaves, Came, by-event, Done, Follow, nothing, then}
+use Rattle.box_promises.specs.Words.{RowOf, waitingIn, requestIn, lineIn, numberOf, InSequence, timeCodes, AllInSequence}
 use Rattle.box_promises.specs.Promises.{Leaves, stays, moves, Starts, now, later, RequestsStartInTime}
 use Rattle.box_promises.proofs.Held.{held, outcome}
 use Rattle.box_promises.proofs.Nothing.{accepted-by}
@@ -43,7 +43,7 @@ use Rattle.box_promises.proofs.Says.{says}
 use Rattle.box_promises.proofs.Moves.{accepted-is, tick-is, at-after, grows, Moved, kept, gone, moved}
 
 -- an answered event as the history has it
-abbrev offerOf : Done → Offer
+abbrev pub offerOf : Done → Offer
 offerOf d = record { room = length (d .before .records); lent = d .before .five; event = d .event }
 
 module _ (ok : AcceptedIsSound) where
@@ -68,13 +68,13 @@ module _ (ok : AcceptedIsSound) where
         go (Reading clock) is = rw (is, isTick, isNext)
 
   -- the events that follow
-  ticks-are : (m : Memory) (b : Box) (ds : List Done) → Came m b → Follow m ds → ticks b (map offerOf ds) ≡ timeCodes ds
+  pub ticks-are : (m : Memory) (b : Box) (ds : List Done) → Came m b → Follow m ds → ticks b (map offerOf ds) ≡ timeCodes ds
   unfolding ticks timeCodes offered
   ticks-are m b ds came nothing = refl
   ticks-are m b ds came (then {d} {ds = es} s f) =
       ap₂ (λ (x : Bool) (n : ℕ). cond x 1 0 + n) (tick-is ok b d came s) (ticks-are (d .after .memory) (offered b (offerOf d)) es (by-event came (d .event) s) f)
 
-  all-next : (m : Memory) (b : Box) (ds : List Done) → Came m b → Follow m ds → AllInSequence ds → allNext b (map offerOf ds) ≡ true
+  pub all-next : (m : Memory) (b : Box) (ds : List Done) → Came m b → Follow m ds → AllInSequence ds → allNext b (map offerOf ds) ≡ true
   unfolding allNext AllInSequence offered
   all-next m b ds came nothing q = refl
   all-next m b ds came (then {d} {ds = es} s f) q =
@@ -83,7 +83,7 @@ module _ (ok : AcceptedIsSound) where
 
   -- where the history has a start, the request leaves its line
   module _ (this-one : box.ThisVeryRequest) (r i word : ℕ) where
-    starts-in : (m : Memory) (b : Box) (ds : List Done) (k : ℕ) → Came m b → Follow m ds → atPlace r (initiators (thePlan b)) ≡ some i → atPlace k (lineIn m r) ≡ some word
+    pub starts-in : (m : Memory) (b : Box) (ds : List Done) (k : ℕ) → Came m b → Follow m ds → atPlace r (initiators (thePlan b)) ≡ some i → atPlace k (lineIn m r) ≡ some word
         → hasStarted i k b (map offerOf ds) ≡ true → Starts r i word k ds
     unfolding hasStarted offered leaving
     starts-in m b ds k came nothing row at h = not-both h refl
@@ -114,9 +114,23 @@ module _ (ok : AcceptedIsSound) where
   unfolding refusal refusals rise testOf
   asks n b i t k z h = not-false (isInitiator (thePlan b) i) (no-row 22 (refusals n b (Request i t k z)) 0 refl h)
 
-  pub requests-start-in-time : box.RequestsStartInTime → box.ThisVeryRequest → RequestsStartInTime
-  unfolding RequestsStartInTime box.RequestsStartInTime values accepts join asked
-  requests-start-in-time in-time this-one before after i t k n transaction b came s =
+  -- a request that was accepted, and its place in the line of its row
+  pub record Joining (before after : Lent) (b : Box) (i t k n transaction : ℕ) : Type 0 where
+    pub taken : refusal (length (before .records)) b (Request i t k n) ≡ 0
+    pub row : ℕ
+    pub place : atPlace row (initiators (thePlan b)) ≡ some i
+    pub own : RowOf (before .memory) row i
+    pub waiting : waitingIn (before .memory) row ≡ length ((b .side i) .line)
+    pub word : ℕ
+    pub joins : lineIn (after .memory) row ≡ lineIn (before .memory) row ++ (word ∷ [])
+    pub asked : requestIn word ≡ state.request t k n transaction
+    pub stands : atPlace (length ((b .side i) .line)) (lineIn (after .memory) row) ≡ some word
+    pub place-after : atPlace row (initiators (thePlan ((step (length (before .records)) b (before .five) (Request i t k n)) .box))) ≡ some i
+
+  pub joining : (before after : Lent) (i t k n transaction : ℕ) (b : Box) → Came (before .memory) b → StepLeaves before (Request i t k n) (Joined transaction) after
+      → Joining before after b i t k n transaction
+  unfolding values accepts join asked
+  joining before after i t k n transaction b came s =
       let e = Request i t k n in
       let d : Done = record { before = before; event = e; answer = Joined transaction; after = after } in
       let h = held ok (before .memory) b came in
@@ -130,27 +144,47 @@ module _ (ok : AcceptedIsSound) where
       let p = thePlan b in
       let row = rowFor p i in
       let place = row-for-place p (h .finds .fit .sound) i (asks size b i t k n taken) in
-      let next = by-event came e s in
       let own = ((says (before .memory) b h) .row row i) .1 place in
-      let waiting = (says (before .memory) b h) .waiting row i own in
       let line = (b .side i) .line in
       let r = state.request t k n ((b .side i) .next) in
       let side : (joined .side i) .line ≡ line ++ (r ∷ []) = ap (λ z. (z .box .side i) .line) (step-accepted size b w e taken) ∙ ap (λ (z : Side). z .line) (side-changed b i (join t k n)) in
       let word = wordOf (owner p i) r in
       let joins = grows ok b d came s row i place (r ∷ []) side in
-      let h′ = held ok (after .memory) joined next in
+      let h′ = held ok (after .memory) joined (by-event came e s) in
       let fit : FitRequest r = (h′ .finds .fit .sides i) .line r (rw side (at-member (line ++ (r ∷ [])) (length line) r (at-end line r))) in
       let long : length (lineIn (before .memory) row) ≡ length line = ap length (line-words (before .memory) b h row i place) ∙ length-map line (wordOf (owner p i)) in
-      let stands : atPlace (length line) (lineIn (after .memory) row) ≡ some word =
-      ap₂ atPlace (sym long) joins ∙ at-end (lineIn (before .memory) row) word in
       record {
+        taken = taken;
         row = row;
+        place = place;
         own = own;
+        waiting = (says (before .memory) b h) .waiting row i own;
         word = word;
         joins = joins;
         asked = request-told (owner p i) r fit ∙ ap (state.request t k n) (sym same);
+        stands = ap₂ atPlace (sym long) joins ∙ at-end (lineIn (before .memory) row) word;
+        place-after = at-after ok b d came s row i place;
+      }
+
+  pub requests-start-in-time : box.RequestsStartInTime → box.ThisVeryRequest → RequestsStartInTime
+  unfolding RequestsStartInTime box.RequestsStartInTime
+  requests-start-in-time in-time this-one before after i t k n transaction b came s =
+      let j = joining before after i t k n transaction b came s in
+      let e = Request i t k n in
+      let size = length (before .records) in
+      let w = before .five in
+      let joined = (step size b w e) .box in
+      let next = by-event came e s in
+      let waiting = j .waiting in
+      record {
+        row = j .row;
+        own = j .own;
+        word = j .word;
+        joins = j .joins;
+        asked = j .asked;
         within = λ ds follow all enough.
             let ticking = ticks-are (after .memory) joined ds next follow in
-            let started = in-time b (h .reached) size w i t k n taken (map offerOf ds) (all-next (after .memory) joined ds next follow all) (omega arith) in
-            rw waiting (starts-in this-one row i word (after .memory) joined ds (length line) next follow (at-after ok b d came s row i place) stands started);
+            let started =
+            in-time b ((held ok (before .memory) b came) .reached) size w i t k n (j .taken) (map offerOf ds) (all-next (after .memory) joined ds next follow all) (omega arith) in
+            rw waiting (starts-in this-one (j .row) i (j .word) (after .memory) joined ds (length ((b .side i) .line)) next follow (j .place-after) (j .stands) started);
       }

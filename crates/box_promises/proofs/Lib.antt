@@ -13,6 +13,7 @@ pub mod Between
 pub mod Lives
 pub mod Moves
 pub mod InTime
+pub mod AtTurn
 pub mod Entries
 pub mod Ends
 pub mod All

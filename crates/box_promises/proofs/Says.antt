@@ -10,12 +10,15 @@ use borrow.Author.Tests.{eqb-true, eq-eqb}
 use Rattle.lists.specs.Place.{atPlace}
 use Rattle.rules_plan.specs.Plan.{nth, Entry, Plan}
 use Rattle.rules_plan.specs.Meaning.{initiators, fitsIn, entryAt}
+use Rattle.rules_plan.specs.Next.{isTurn}
 use Rattle.rules_plan.specs.Promises.{AcceptedIsSound}
 use Rattle.rules_plan.specs.laws.Sound.{Sound}
-use Rattle.memory_plan.specs.Spans.{fitsInWords}
-use Rattle.memory_plan.specs.laws.Costs.{fits-told}
+use Rattle.memory_plan.specs.Spans.{fitsInWords, leastInWords}
+use Rattle.memory_plan.specs.Turns.{turnInWords}
+use Rattle.memory_plan.specs.laws.Costs.{fits-told, least-told}
 use Rattle.memory_plan.specs.laws.Entries.{spanRead, targetsRead, entry-told, entry-none}
 use Rattle.memory_plan.specs.laws.InRows.{span-cell, aim-cell}
+use Rattle.memory_plan.specs.laws.Turns.{turn-told}
 use Rattle.rules_box.specs.State.{Box, thePlan}
 use Rattle.rules_box.specs.Turn.{valueOf, inSequence}
 use Rattle.memory_run.specs.Run.{lastOf}
@@ -28,7 +31,7 @@ use Rattle.box_promises.proofs.Paths.{path-says}
 
 -- in sequence by the word of memory, and by the last byte
 module _ (m : Memory) (b : Box) (h : HeldBy m b) (byte : ℕ) where
-  last-word : (o : Option ℕ) → b .last ≡ o → nth (m .last) 0 ≡ lastOf o
+  pub last-word : (o : Option ℕ) → b .last ≡ o → nth (m .last) 0 ≡ lastOf o
   last-word o is = ap (λ (ws : List ℕ). nth ws 0) (h .at .runs .last) ∙ ap lastOf is
 
   next-there : InSequence m byte → inSequence (b .last) byte ≡ true
@@ -84,6 +87,15 @@ entry-says m b h r i v own low = go (entryAt (p .entries) i v) refl
 fits-says : (m : Memory) (b : Box) → HeldBy m b → (r i t n k : ℕ) → RowOf m r i → t < 64 → fitsInWords (m .numbers) r t n k ≡ fitsIn (thePlan b) i t n k
 fits-says m b h r i t n k own low = fits-told (thePlan b) _ (m .numbers) (h .at .plan .numbers) (h .finds .fit .sound) r i t (row-of m b h r i (own .low) (own .is)) low n k
 
+-- at which slots it may start, by the summary
+turn-says : (m : Memory) (b : Box) → HeldBy m b → (r i t n v : ℕ) → RowOf m r i → t < 64
+    → turnInWords (m .aims) r t (leastInWords (m .numbers) r t n) v ≡ isTurn (thePlan b) ((thePlan b) .entries) i t n v
+turn-says m b h r i t n v own low =
+    let at = row-of m b h r i (own .low) (own .is) in
+    let sound = h .finds .fit .sound in
+    turn-told (thePlan b) sound r i at (eight-rows m b h r i at) t low n (m .aims) (h .at .plan .aims) (leastInWords (m .numbers) r t n)
+    (least-told (thePlan b) _ (m .numbers) (h .at .plan .numbers) sound r i t at low n) v
+
 pub says : (m : Memory) (b : Box) → HeldBy m b → Says m b
 says m b h = record {
   row = row-says m b h;
@@ -95,6 +107,7 @@ says m b h = record {
   entry = entry-says m b h;
   path = path-says m b h;
   fits = fits-says m b h;
+  turn = turn-says m b h;
   in-sequence = λ byte. (next-there m b h byte, next-back m b h byte);
 }
 

@@ -13,8 +13,11 @@ use Rattle.bitsets.specs.Set.{member}
 use Rattle.rules_plan.specs.declared.Verdict.{Verdict}
 use Rattle.rules_plan.specs.declared.Copied.{Copied}
 use Rattle.rules_plan.specs.declared.Copied.the-variants.{Written}
+use Rattle.rules_plan.specs.declared.Next.{Next}
+use Rattle.rules_plan.specs.declared.Next.the-variants.{Turn}
 use Rattle.rules_plan.specs.Plan.{nth, two, Entry, Plan}
 use Rattle.rules_plan.specs.Meaning.{initiators, fitsIn, entryAt, uses}
+use Rattle.rules_plan.specs.Next.{isTurn, nextAnswer}
 use Rattle.rules_plan.specs.Verdict.{number}
 use Rattle.rules_plan.specs.Judge.{counts, judge}
 use Rattle.rules_plan.specs.Canon.{canonical, written, given, planOf, SamePlan}
@@ -33,12 +36,14 @@ use Rattle.rules_box.specs.Records.{recordBytes, recorded, full}
 use Rattle.rules_box.specs.Step.{Outcome, step, clockOf}
 use Rattle.rules_box.specs.History.{Reached}
 use Rattle.memory_plan.specs.PlanHeld.{PlanHeld}
-use Rattle.memory_plan.specs.Spans.{fitsInWords}
+use Rattle.memory_plan.specs.Spans.{fitsInWords, leastInWords}
+use Rattle.memory_plan.specs.Turns.{turnInWords}
 use Rattle.memory_run.specs.Memory.{Finds}
 use Rattle.load_plan.specs.Load.{HoldsPlanOf}
 use Rattle.out_plan.specs.Out.{WritesOut}
+use Rattle.ask_next.specs.Asked.{TellsNext}
 use Rattle.box_calls.specs.Calls.{Memory, At, Lent, withRun, ClearLeaves, LoadLeaves, StepLeaves, Came, Done, Follow}
-use Rattle.box_promises.specs.Words.{blankMemory, RowOf, runWord, waitingIn, requestIn, lineIn, liveIn, liveTargetIn, spanIn, aimsIn, pathHas, numberOf, countOf, InSequence, tickOf, timeCodes, AllInSequence, recordAt, targetAfter}
+use Rattle.box_promises.specs.Words.{blankMemory, RowOf, runWord, waitingIn, requestIn, lineIn, liveIn, liveTargetIn, spanIn, aimsIn, pathHas, numberOf, countOf, InSequence, slotIn, memoryAfter, tickOf, timeCodes, AllInSequence, recordAt, targetAfter}
 
 -- "A box's state comes only from a clear, which needs none before it, a load or an event; statements may take that as given and nothing
 -- more": memory that came so holds the box that the definitions reach by the same calls, and meets what every event asks of memory.
@@ -52,7 +57,8 @@ unfoldable pub HoldsTheBox : Type 0
 HoldsTheBox = (m : Memory) (b : Box) → Came m b → HeldBy m b
 
 -- The words and bytes that demand 3 speaks of say what the rules say: which initiators there are, who waits with what, what is live and
--- for how long, which entry stands where, where a path leads, how long a transaction may be, which time-code is in sequence.
+-- for how long, which entry stands where, where a path leads, how long a transaction may be, at which slots it may start (by the summary alone),
+-- which time-code is in sequence.
 unfoldable pub EntrySays : (span aims : ℕ) → Option Entry → Type 0
 EntrySays span′ aims none = span′ ≡ 0
 EntrySays span′ aims (some e) = (span′ ≢ 0) × (span′ ≡ e .span) × ((t : ℕ) → member t aims ≡ isIn t (e .targets))
@@ -67,6 +73,8 @@ pub record Says (m : Memory) (b : Box) : Type 0 where
   pub entry : (r i v : ℕ) → RowOf m r i → v < 64 → EntrySays (spanIn m r v) (aimsIn m r v) (entryAt ((thePlan b) .entries) i v)
   pub path : (i t l : ℕ) → pathHas m i t l ≡ uses (thePlan b) i t l
   pub fits : (r i t n k : ℕ) → RowOf m r i → t < 64 → fitsInWords (m .numbers) r t n k ≡ fitsIn (thePlan b) i t n k
+  pub turn : (r i t n v : ℕ) → RowOf m r i → t < 64 →
+      turnInWords (m .aims) r t (leastInWords (m .numbers) r t n) v ≡ isTurn (thePlan b) ((thePlan b) .entries) i t n v
   pub in-sequence : (byte : ℕ) → InSequence m byte ↔ (inSequence (b .last) byte ≡ true)
 
 unfoldable pub WordsOfTheBox : Type 0
@@ -213,6 +221,37 @@ RequestsStartInTime =
     StepLeaves before (Request i t k n) (Joined transaction) after →
     StartsInTime before after i (state.request t k n transaction)
 
+-- T-04: "the next slot in which initiator i may start a request". `next` answers of memory what the rules say of the plan that is in the box.
+abbrev pub NextTold : Memory → (i t n s : ℕ) → Next → Type 0
+NextTold m = TellsNext (m .rows) (m .aims) (m .numbers)
+
+unfoldable pub NextOfTheRules : Type 0
+NextOfTheRules = (m : Memory) (b : Box) → Came m b → (i t n s : ℕ) (answer : Next) → NextTold m i t n s answer → answer ≡ nextAnswer (b .plan) i t n s
+
+-- It waits through all of the events.
+pub data WaitsOn (r i : ℕ) : ℕ → List Done → Type 0 where
+  still : {k : ℕ} → WaitsOn r i k []
+  through : {k j : ℕ} {d : Done} {ds : List Done} → Waits d r i k j → WaitsOn r i j ds → WaitsOn r i k (d ∷ ds)
+
+-- A request that joins an empty line, where a time-code was accepted since the load: `next`, asked with that time-code's slot, answers a count, and
+-- if the time-codes accepted from then on are in sequence, the request starts at the one that has this number among them, in the slot so many on.
+pub record StartsAtCount (before after : Lent) (row i c : ℕ) (r : state.Request) : Type 0 where
+  pub word : ℕ
+  pub joins : lineIn (after .memory) row ≡ word ∷ []
+  pub asked : requestIn word ≡ r
+  pub by-then : (ds : List Done) → Follow (after .memory) ds → AllInSequence ds → c ≤ timeCodes ds → Starts row i word 0 ds
+  pub not-before : (ds : List Done) → Follow (after .memory) ds → AllInSequence ds → timeCodes ds < c → WaitsOn row i 0 ds
+  pub slot : (ds : List Done) → Follow (after .memory) ds → AllInSequence ds →
+      slotIn (memoryAfter (after .memory) ds) ≡ (slotIn (before .memory) + timeCodes ds) % 64
+
+unfoldable pub StartsAtItsTurn : Type 0
+StartsAtItsTurn =
+    (before after : Lent) (i t k n transaction : ℕ) (b : Box) → Came (before .memory) b →
+    StepLeaves before (Request i t k n) (Joined transaction) after →
+    (row : ℕ) → RowOf (before .memory) row i → waitingIn (before .memory) row ≡ 0 → nth (before .memory .last) 0 ≢ 0 →
+    (answer : Next) → NextTold (before .memory) i t n (slotIn (before .memory)) answer →
+    (c : ℕ) × (answer ≡ Turn c) × StartsAtCount before after row i c (state.request t k n transaction)
+
 -- Demand 3, entries. "Nobody starts outside its entries": a record of kind 5 is written at a time-code in sequence, and in the row of its
 -- initiator an entry stands at the value, with the target among its targets, and the length is one that its span permits.
 pub record AtAnEntry (m : Memory) (e : Event) (bytes : List ℕ) : Type 0 where
@@ -290,6 +329,8 @@ pub record Promises : Type 0 where
   pub links : LinksNeverShared
   pub between : NotEvenBetweenRecords
   pub in-time : RequestsStartInTime
+  pub next : NextOfTheRules
+  pub at-turn : StartsAtItsTurn
   pub entries : StartsOnlyAtEntries
   pub once : OncePerVisit
   pub live : LiveByRecordOnly

@@ -27,7 +27,7 @@ blankMemory = record {
   reach = replicate 8 0;
   paths = replicate 2816 0;
   spans = replicate 512 0;
-  aims = replicate 512 0;
+  aims = replicate 1152 0;
   numbers = replicate 524 0;
   run = replicate 96 0;
   last = replicate 1 0;
@@ -102,6 +102,15 @@ countOf a = (values a) .count
 -- a time-code with this byte is in sequence: `last` is 0 for none, else the byte of the last accepted one and 1
 abbrev pub InSequence : Memory → ℕ → Type 0
 InSequence m byte = (nth (m .last) 0 ≡ 0) ⊎ (byte % 64 ≡ nth (m .last) 0 % 64)
+
+-- the slot of the last accepted time-code, where there was one
+abbrev pub slotIn : Memory → ℕ
+slotIn m = (nth (m .last) 0 - 1) % 64
+
+-- memory after the events
+unfoldable pub memoryAfter : Memory → List Done → Memory
+memoryAfter m [] = m
+memoryAfter m (d ∷ ds) = memoryAfter (d .after .memory) ds
 
 unfoldable pub isTimeCode : Event → Bool
 isTimeCode (TimeCode byte clock) = true

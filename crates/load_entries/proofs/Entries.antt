@@ -6,7 +6,7 @@ use mathlib.Core.Bool.{Bool, true, false, _&&_, cond, and-true, and-false, or-tr
 use Prim.Native.Nat.{ℕ, _+_, _*_, _%_, _^_, _≤_, _<_, min}
 use native.Mathlib.Omega.{arith}
 use native.Mathlib.Decide.{decLt}
-use lib.ListN.{length, set}
+use lib.ListN.{length, set, length-set}
 use lib.Dec.{eqb}
 use borrow.Author.Tests.{eqb-true, lt-ltb, not-false}
 use Rattle.lists.specs.Search.{any, all, isIn, twice}
@@ -29,7 +29,10 @@ use Rattle.memory_plan.specs.Take.{itemFault, taken}
 use Rattle.memory_plan.specs.laws.Among.{isRow, row-place, row-none, reach-at}
 use Rattle.load_items.specs.laws.Numbers.{initiators-told, numbers-entry}
 use Rattle.load_items.specs.laws.Sets.{node-told}
-use Rattle.load_entries.proofs.Slots.{span-some, span-none, spans-entry, aims-entry}
+use Rattle.memory_plan.specs.laws.InRows.{length-aimsOf}
+use Rattle.load_turns.specs.Marked.{Marked, isMarked}
+use Rattle.load_turns.specs.laws.Summary.{aims-more}
+use Rattle.load_entries.proofs.Slots.{span-some, span-none, spans-entry}
 use Rattle.load_items.specs.laws.Judged.{Judged, holds-taken, judged-6, judged-7, judged-8, judged-11, judged-0}
 
 -- the arrays that the code reads
@@ -203,19 +206,22 @@ module _ {m : Lent} {x : Entry} {r : ℕ} (s : Free m x r) where
   -- the word w is the set of the targets, and n the sum that the machine computes
   pub entry-taken : 0 < length (x .targets) → r < rowsIn m → allIn (nth (m .reach) r) (x .targets) ≡ true
       → (w : ℕ) → w < 2 ^ 64 → ((k : ℕ) → member k w ≡ listed (x .targets) k) → (n : ℕ) → n ≡ (nth (m .numbers) 4 + 1) % 2 ^ 32
-      → EntryAnswer m (set (m .spans) (r * 64 + x .slot) (x .span)) (set (m .aims) (r * 64 + x .slot) w) (set (m .numbers) 4 n) x 0
+      → (aims′ : List ℕ) → (length (set (m .aims) (r * 64 + x .slot) w) ≡ 1_152 → Marked (isMarked r (x .span) (x .targets)) (x .slot) (set (m .aims) (r * 64 + x .slot) w) aims′)
+      → EntryAnswer m (set (m .spans) (r * 64 + x .slot) (x .span)) aims′ (set (m .numbers) 4 n) x 0
   unfolding notGiven tooMany noWalk noPath
-  entry-taken l h e w fits is n sum size p fair sets rows reach spans aims numbers =
+  entry-taken l h e w fits is n sum aims′ marked size p fair sets rows reach spans aims numbers =
       let held : Holding m size p = record { fair = fair; sets = sets; rows = rows; reach = reach; spans = spans; aims = aims; numbers = numbers } in
       let reached = paths m x r (s .sought) size p held h true e in
       let j = judged-0 p (entry x) (s .sought .inside) (new size p held) (rw (all-nodes p fair (x .initiator) (x .targets) l reached)) refl refl (rw reached) in
       let most = entries-most p (fair .lengths) (fair .ranges) (fair .reached) (fair .lists .entries .once) (fair .lists .paths .eight) in
       let word = packed-is w (λ (t : ℕ). isIn t (x .targets)) fits (λ k l. is k ∙ rw (lt-ltb k 64 l) (and-true (isIn k (x .targets)))) in
-      let below = (entry-range x (s .sought .inside)) .slot in
+      let range = entry-range x (s .sought .inside) in
+      let below = range .slot in
       let here = row m x r (s .sought) size p held h in
       let alone = nobody m x r (s .sought) size p held (s .alone) in (
         j .fault,
         holds-taken spansOf j _ (spans-entry p r x here (omega arith) below alone (m .spans) spans),
-        holds-taken aimsOf j _ (aims-entry p r x here (omega arith) below alone (m .aims) aims w word),
+        holds-taken aimsOf j _ (aims-more p r x here (omega arith) below alone (range .span) (range .targets) (m .aims) aims w word aims′
+            (marked (length-set (m .aims) (r * 64 + x .slot) w ∙ ap length aims ∙ length-aimsOf p))),
         holds-taken (numbersWith size) j _ (rw sum (numbers-entry size p (m .numbers) numbers x (omega (arith, most)))),
       )

@@ -1,4 +1,4 @@
--- Laws of the arrays with a cell for each row and slot, `spans` and `aims`: what a cell has, and the array with one entry more.
+-- Laws of `spans`, with a cell for each row and slot: what a cell has, and the array with one entry more.
 use mathlib.Core.Path.{_≡_, refl, sym, ap, _∙_}
 use mathlib.Core.List.{List, List·Memᴰ}
 use mathlib.Core.Option.{Option, none, some}
@@ -6,14 +6,13 @@ use mathlib.Core.Bool.{Bool, true, false}
 use Prim.Native.Nat.{ℕ, _+_, _*_, _/_, _%_, _<_}
 use native.Mathlib.Omega.{arith}
 use lib.ListN.{set}
-use Rattle.lists.specs.Search.{any, isIn}
+use Rattle.lists.specs.Search.{any}
 use Rattle.lists.specs.Place.{atPlace}
 use Rattle.lists.specs.Cells.{cells}
 use Rattle.lists.specs.laws.Search.{any-elim, any-intro, find-some, find-has}
-use Rattle.bitsets.specs.Set.{packed}
 use Rattle.rules_plan.specs.Plan.{nth, Entry, Plan, entry, grow}
 use Rattle.rules_plan.specs.Meaning.{isInitiator, initiators, standsAt, entryAt}
-use Rattle.memory_plan.specs.Memory.{ofRow, spanOf, spansOf, aimOf, aimsOf}
+use Rattle.memory_plan.specs.Memory.{ofRow, spanOf, spansOf}
 use Rattle.memory_plan.specs.laws.InRows.{of-row, slot-cell}
 use Rattle.memory_plan.specs.laws.RowCells.{cell-more}
 
@@ -57,7 +56,3 @@ module _ (p : Plan) (r : ℕ) (e : Entry) (row : atPlace r (initiators p) ≡ so
   pub spans-entry : (spans : List ℕ) → spans ≡ spansOf p → set spans (r * 64 + e .slot) (e .span) ≡ spansOf (grow p (entry e))
   unfolding spansOf spanOf entryAt standsAt grow ofRow initiators isInitiator
   spans-entry spans held = rw held (cell-more spanOf (λ f. f .initiator) (λ f. f .slot) p r (p .entries) e row short below free)
-
-  pub aims-entry : (aims : List ℕ) → aims ≡ aimsOf p → (x : ℕ) → x ≡ packed (λ (t : ℕ). isIn t (e .targets)) → set aims (r * 64 + e .slot) x ≡ aimsOf (grow p (entry e))
-  unfolding aimsOf aimOf entryAt standsAt grow ofRow initiators isInitiator
-  aims-entry aims held x is = rw (held, is) (cell-more aimOf (λ f. f .initiator) (λ f. f .slot) p r (p .entries) e row short below free)

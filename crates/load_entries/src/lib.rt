@@ -1,4 +1,4 @@
-// An entry: judged after the plan so far, and put at its row and slot.
+// An entry: judged after the plan so far, and put at its row and slot and into the summary.
 ghost use mathlib.Core.Path.{_≡_};
 ghost use mathlib.Core.List.{List, List·Memᴰ};
 ghost use mathlib.Core.Bool.{_&&_, cond};
@@ -12,6 +12,7 @@ ghost use Rattle.rules_plan.specs.laws.Fair.{Fair};
 ghost use Rattle.memory_plan.specs.Memory.{setsOf, rowsOf, reachOf, spansOf, aimsOf, numbersWith};
 ghost use Rattle.memory_plan.specs.Take.{itemFault, taken, entryItem};
 use load_items::several::gather;
+use load_turns::keep_turns;
 use memory_plan::at_most;
 use memory_plan::layout::*;
 use memory_plan::rows::row_among;
@@ -96,6 +97,7 @@ pub fn entry(
     }
     spans[at] = span;
     aims[at] = g.set;
+    keep_turns(aims, row, slot, span, targets);
     let entries = numbers[ENTRIES];
     numbers[ENTRIES] = std::num::wrapping_add_u32(entries, 1);
     0

@@ -1,10 +1,10 @@
 -- One item taken into memory: which arrays it leaves alone, and so that memory holds the plan with it.
-use mathlib.Core.Path.{_≡_, refl, sym, ap, _∙_}
+use mathlib.Core.Path.{_≡_, refl, sym, ap, ap₂, _∙_}
 use mathlib.Core.Logic.{_⊎_, inl, inr}
-use mathlib.Core.List.{List, []}
+use mathlib.Core.List.{List, [], _++_}
 use mathlib.Core.Option.{Option, none, some}
 use mathlib.Core.Bool.{Bool, true, false, cond}
-use Prim.Native.Nat.{ℕ, _≤_}
+use Prim.Native.Nat.{ℕ, _/_, _%_, _≤_}
 use native.Mathlib.Omega.{arith}
 use lib.Dec.{eqb}
 use Rattle.lists.specs.Search.{find}
@@ -15,9 +15,10 @@ use Rattle.rules_plan.specs.Fields.{asPath, asTimes, asReply, Tag, tags, tagOf,
 use Rattle.rules_plan.specs.Meaning.{hasKind, isLink, isInitiator, initiators, hasPath, entryAt}
 use Rattle.rules_plan.specs.laws.Lengths.{allowed}
 use Rattle.rules_plan.specs.laws.Items.{UpTo, no-entries}
-use Rattle.memory_plan.specs.Memory.{setsOf, endsOf, rowsOf, ofRow, reachOf, pathsInOrder, repliesInOrder, pathsOf, spanOf, spansOf, aimOf, aimsOf, costsAmong, numbersWith, HoldsSized}
+use Rattle.memory_plan.specs.Memory.{setsOf, endsOf, rowsOf, ofRow, reachOf, pathsInOrder, repliesInOrder, pathsOf, spanOf, spansOf, aimOf, slotAims, hasTarget, longerThan, slotsWith, turnsOf, longOf, aimsOf, costsAmong, numbersWith, HoldsSized}
 use Rattle.memory_plan.specs.Take.{itemFault, taken, timesItem}
 use Rattle.memory_plan.specs.laws.RowCells.{no-cells}
+use Rattle.memory_plan.specs.laws.Turns.{no-slots}
 use Rattle.load_fields.specs.Fields.{Takes, TakesRoute}
 
 -- what a row of the table of tags says of a content: its item, and the bounds of its length
@@ -48,11 +49,16 @@ module _ (p : Plan) (none-yet : p .entries ≡ []) where
 
   pub no-spans : spansOf p ≡ cells 512 (λ (n : ℕ). 0)
   unfolding spansOf spanOf
-  no-spans = no-cells p _ (no-entry spanOf refl)
+  no-spans = no-cells p 512 (λ (n : ℕ). n / 64) (λ (n : ℕ). n % 64) _ (no-entry spanOf refl)
 
-  pub no-aims : aimsOf p ≡ cells 512 (λ (n : ℕ). 0)
-  unfolding aimsOf aimOf
-  no-aims = no-cells p _ (no-entry aimOf refl)
+  no-slot : (g : ℕ → Option Entry → Bool) → ((k : ℕ) → g k none ≡ false) → (i k : ℕ) → slotsWith (g k) (p .entries) i ≡ 0
+  no-slot g z i k = ap (λ (es : List Entry). slotsWith (g k) es i) none-yet ∙ no-slots (g k) (z k) i
+
+  pub no-aims : aimsOf p ≡ cells 512 (λ (n : ℕ). 0) ++ (cells 512 (λ (n : ℕ). 0) ++ cells 128 (λ (n : ℕ). 0))
+  unfolding aimsOf slotAims turnsOf longOf aimOf hasTarget longerThan
+  no-aims = ap₂ _++_ (no-cells p 512 (λ (n : ℕ). n / 64) (λ (n : ℕ). n % 64) _ (no-entry aimOf refl))
+      (ap₂ _++_ (no-cells p 512 (λ (n : ℕ). n / 64) (λ (n : ℕ). n % 64) _ (no-slot hasTarget (λ k. refl)))
+      (no-cells p 128 (λ (n : ℕ). n / 16) (λ (n : ℕ). n % 16) _ (no-slot longerThan (λ k. refl))))
 
 -- an array that does not change when the item is added does not change when it is taken
 left-alone : (f : Plan → List ℕ) (p : Plan) (x : Item) → f (grow p x) ≡ f p → f p ≡ f (taken p x)
@@ -100,7 +106,7 @@ module _ {size : ℕ} {p : Plan} {s e r c a n m w : List ℕ} (old : HoldsSized 
   numbers-kept x h = old .numbers ∙ left-alone (numbersWith size) p x h
 
   pub device-taken : (d : Device) {v : ℕ} {s′ : List ℕ} → (v ≡ itemFault p (device d)) × (s′ ≡ setsOf (taken p (device d))) → Takes size p (device d) v s′ e r c a n m w
-  unfolding grow endsOf rowsOf reachOf ofRow hasPath pathsInOrder repliesInOrder pathsOf spansOf aimsOf costsAmong numbersWith isInitiator initiators
+  unfolding grow endsOf rowsOf reachOf ofRow hasPath pathsInOrder repliesInOrder pathsOf spansOf slotAims turnsOf longOf aimsOf costsAmong numbersWith isInitiator initiators
   device-taken d new =
       let x = device d in
       record {
@@ -109,7 +115,7 @@ module _ {size : ℕ} {p : Plan} {s e r c a n m w : List ℕ} (old : HoldsSized 
       }
 
   pub link-taken : (l : Link) {v : ℕ} {s′ e′ : List ℕ} → (v ≡ itemFault p (link l)) × (s′ ≡ setsOf (taken p (link l))) × (e′ ≡ endsOf (taken p (link l))) → Takes size p (link l) v s′ e′ r c a n m w
-  unfolding grow rowsOf reachOf ofRow hasPath pathsInOrder repliesInOrder pathsOf spansOf aimsOf costsAmong numbersWith isInitiator initiators
+  unfolding grow rowsOf reachOf ofRow hasPath pathsInOrder repliesInOrder pathsOf spansOf slotAims turnsOf longOf aimsOf costsAmong numbersWith isInitiator initiators
   link-taken l new =
       let x = link l in
       record {
@@ -128,7 +134,7 @@ module _ {size : ℕ} {p : Plan} {s e r c a n m w : List ℕ} (old : HoldsSized 
       }
 
   reply-taken : (y : Route) {v : ℕ} {r′ c′ a′ w′ : List ℕ} → TakesRoute size p (reply y) v r′ c′ a′ w′ → Takes size p (reply y) v s e r′ c′ a′ n m w′
-  unfolding grow setsOf hasKind isLink endsOf spansOf aimsOf ofRow isInitiator initiators
+  unfolding grow setsOf hasKind isLink endsOf spansOf slotAims turnsOf longOf aimsOf ofRow isInitiator initiators
   reply-taken y new =
       let x = reply y in
       record {
@@ -146,7 +152,7 @@ module _ {size : ℕ} {p : Plan} {s e r c a n m w : List ℕ} (old : HoldsSized 
       }
 
   pub timing-taken : (t : Timing) {v : ℕ} {w′ : List ℕ} → (v ≡ itemFault p (timing t)) × (w′ ≡ numbersWith size (taken p (timing t))) → Takes size p (timing t) v s e r c a n m w′
-  unfolding grow setsOf hasKind isLink endsOf rowsOf reachOf ofRow hasPath pathsInOrder repliesInOrder pathsOf spansOf aimsOf isInitiator initiators
+  unfolding grow setsOf hasKind isLink endsOf rowsOf reachOf ofRow hasPath pathsInOrder repliesInOrder pathsOf spansOf slotAims turnsOf longOf aimsOf isInitiator initiators
   timing-taken t new =
       let x = timing t in
       record {
@@ -155,7 +161,7 @@ module _ {size : ℕ} {p : Plan} {s e r c a n m w : List ℕ} (old : HoldsSized 
       }
 
   pub times-taken : (t : Times) {v : ℕ} {w′ : List ℕ} → (v ≡ itemFault p (times t)) × (w′ ≡ numbersWith size (taken p (times t))) → Takes size p (times t) v s e r c a n m w′
-  unfolding grow setsOf hasKind isLink endsOf rowsOf reachOf ofRow hasPath pathsInOrder repliesInOrder pathsOf spansOf aimsOf isInitiator initiators
+  unfolding grow setsOf hasKind isLink endsOf rowsOf reachOf ofRow hasPath pathsInOrder repliesInOrder pathsOf spansOf slotAims turnsOf longOf aimsOf isInitiator initiators
   times-taken t new =
       let x = times t in
       record {

@@ -29,7 +29,7 @@ pub fn clear(
     *reach = [0u64; ROWS];
     *paths = [0u8; PATH_BYTES];
     *spans = [0u8; CELLS];
-    *aims = [0u64; CELLS];
+    *aims = [0u64; AIMS];
     *numbers = [0u32; NUMBERS];
 }
 

@@ -1,5 +1,6 @@
 pub mod Memory
 pub mod Spans
+pub mod Turns
 pub mod PlanHeld
 pub mod Take
 pub mod laws

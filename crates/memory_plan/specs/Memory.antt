@@ -4,9 +4,9 @@ use mathlib.Core.Path.{_≡_}
 use Prim.Native.Nat.{ℕ, _+_, _*_, _/_, _%_, min, max}
 use mathlib.Core.List.{List, [], _∷_, _++_, map, flatMap}
 use mathlib.Core.Option.{Option, none, some}
-use mathlib.Core.Bool.{cond}
+use mathlib.Core.Bool.{Bool, false, cond}
 use lib.ListN.{length}
-use lib.Dec.{eqb}
+use lib.Dec.{ltb, eqb}
 use Rattle.lists.specs.Search.{find, isIn}
 use Rattle.lists.specs.Place.{atPlace}
 use Rattle.lists.specs.Order.{inOrder}
@@ -81,8 +81,32 @@ unfoldable pub aimOf : Option Entry → ℕ
 aimOf none = 0
 aimOf (some e) = packed (λ (t : ℕ). isIn t (e .targets))
 
+unfoldable pub slotAims : Plan → List ℕ
+slotAims p = cells 512 (λ (n : ℕ). ofRow p (n / 64) (λ (i : ℕ). aimOf (entryAt (p .entries) i (n % 64))))
+
+-- T-04: "a summary for each pair of initiator and target", the same turned round. At 64 × row + target the set of the slots at which an entry
+-- stands that has the target; and at 16 × row + k the set of those at which an entry stands whose span is over k.
+unfoldable pub hasTarget : ℕ → Option Entry → Bool
+hasTarget t none = false
+hasTarget t (some e) = isIn t (e .targets)
+
+unfoldable pub longerThan : ℕ → Option Entry → Bool
+longerThan k none = false
+longerThan k (some e) = ltb k (e .span)
+
+-- the slots at which initiator i has an entry, among the entries es, that passes a test
+unfoldable pub slotsWith : (Option Entry → Bool) → List Entry → ℕ → ℕ
+slotsWith g es i = packed (λ (v : ℕ). g (entryAt es i v))
+
+unfoldable pub turnsOf : Plan → List ℕ
+turnsOf p = cells 512 (λ (n : ℕ). ofRow p (n / 64) (slotsWith (hasTarget (n % 64)) (p .entries)))
+
+unfoldable pub longOf : Plan → List ℕ
+longOf p = cells 128 (λ (n : ℕ). ofRow p (n / 16) (slotsWith (longerThan (n % 16)) (p .entries)))
+
+-- the summary stands behind the aims of the slots
 unfoldable pub aimsOf : Plan → List ℕ
-aimsOf p = cells 512 (λ (n : ℕ). ofRow p (n / 64) (λ (i : ℕ). aimOf (entryAt (p .entries) i (n % 64))))
+aimsOf p = slotAims p ++ (turnsOf p ++ longOf p)
 
 -- the fixed time of a path by the rate, 0 where there is none; and at 64 × row + target that of the path from the row's initiator, with the
 -- times x and among the replies ys and the paths xs

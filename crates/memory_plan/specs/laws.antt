@@ -2,6 +2,7 @@ pub mod RowCells
 pub mod Costs
 pub mod SameMemory
 pub mod InRows
+pub mod Turns
 pub mod PathRows
 pub mod Replies
 pub mod ToldPlan
@@ -11,4 +12,6 @@ pub mod BlankMemory
 pub mod Among
 pub mod Rows
 pub mod RowFor
+pub mod Found
+pub mod Shown
 pub mod Entries

@@ -47,14 +47,24 @@ pub const PATH_BYTES: usize = 2816;
 
 pub type Paths = [u8; PATH_BYTES];
 
-// `spans` and `aims`: a cell for each row and slot, at row × SLOTS + slot.
+// `spans` and `aims`: a cell for each row and slot, at row × SLOTS + slot. Behind these `aims` has the summary: for each row and target, at
+// TURNS + row × SLOTS + target, the slots of the entries that have the target; and for each row and span, at LONG + row × LONGEST + span − 1,
+// the slots of the entries whose span is no shorter.
 pub const SLOTS: usize = 64;
 
 pub const CELLS: usize = 512;
 
 pub type Spans = [u8; CELLS];
 
-pub type Aims = [u64; CELLS];
+pub const AIMS: usize = 1152;
+
+pub type Aims = [u64; AIMS];
+
+pub const TURNS: usize = 512;
+
+pub const LONG: usize = 1024;
+
+pub const LONGEST: usize = 16;
 
 // `numbers`: least and greatest interval, how many initiators, paths and entries there are, the size of the plan written out; the rate and
 // the four latencies, and a slot by the rate; then for each row and target, at COSTS + row × SLOTS + target, the fixed time of that path by

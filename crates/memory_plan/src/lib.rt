@@ -14,3 +14,4 @@ pub mod entry;
 pub mod interval;
 pub mod layout;
 pub mod rows;
+pub mod turns;

@@ -266,7 +266,7 @@ fn main() {
     let mut reach = [0u64; ROWS];
     let mut paths = [0u8; PATH_BYTES];
     let mut spans = [0u8; CELLS];
-    let mut aims = [0u64; CELLS];
+    let mut aims = [0u64; AIMS];
     let mut numbers = [0u32; NUMBERS];
     let mut run = [0u64; RUN];
     let mut last = [0u8; LAST];

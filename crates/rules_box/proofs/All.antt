@@ -5,6 +5,7 @@ use Rattle.rules_box.proofs.Refusals.{refused-event, refused-load, clea
 use Rattle.rules_box.proofs.Links.{links-never-shared, not-even-between}
 use Rattle.rules_box.proofs.Places.{this-very-request, joins-as-asked}
 use Rattle.rules_box.proofs.InTime.{requests-start-in-time}
+use Rattle.rules_box.proofs.AtTurn.{starts-at-its-turn}
 use Rattle.rules_box.proofs.Order.{records-in-order, once-per-visit}
 use Rattle.rules_box.proofs.Visits.{starts-only-at-entries}
 use Rattle.rules_box.proofs.Lives.{live-by-record-only, ends-by-reply-or-record, none-still-live}
@@ -20,6 +21,7 @@ promised ok = record {
   between = not-even-between ok;
   as-told = not-even-as-told ok;
   in-time = requests-start-in-time ok;
+  at-turn = starts-at-its-turn ok;
   this-one = this-very-request ok;
   joins = joins-as-asked;
   entries = starts-only-at-entries;

@@ -17,14 +17,14 @@ use Rattle.lists.specs.laws.Bools.{both-true, some-some}
 use Rattle.lists.specs.laws.Rows.{rise, no-row}
 use Rattle.lists.specs.laws.Place.{first-has}
 use Rattle.rules_plan.specs.Plan.{Entry, Plan}
-use Rattle.rules_plan.specs.Meaning.{permits}
+use Rattle.rules_plan.specs.Meaning.{permits, mayStart}
 use Rattle.rules_plan.specs.laws.Sound.{Sound}
 use Rattle.rules_box.specs.declared.Event.{Event}
 use Rattle.rules_box.specs.declared.Event.the-variants.{TimeCode, Request, Reply, Reading}
 use Rattle.rules_box.specs.declared.Watchdog.{Watchdog}
 use Rattle.rules_box.specs.State as state
 use Rattle.rules_box.specs.State.{Box, Side, Live, thePlan}
-use Rattle.rules_box.specs.Refuse.{refusal, refusals, mayStart}
+use Rattle.rules_box.specs.Refuse.{refusal, refusals}
 use Rattle.rules_box.specs.Turn.{inSequence, valueOf, older, survives, allows, startOf}
 use Rattle.rules_box.specs.Step.{step, accepts, Outcome, withSide, ticked}
 use Rattle.rules_box.specs.History.{Offer, offered, isTick, isNext, ticks, allNext, Fate, starts, waits, leaving, fateBy, fate, hasStarted}
@@ -33,7 +33,7 @@ use Rattle.rules_plan.specs.Promises.{AcceptedIsSound}
 use Rattle.rules_plan.specs.laws.Runs.{found-at, no-entry-after}
 use Rattle.rules_box.specs.laws.Turns.{Outlives, outlives, begins-at}
 use Rattle.rules_box.specs.laws.Steps.{step-cases, plan-kept}
-use Rattle.rules_box.specs.laws.Permitted.{permitted-by}
+use Rattle.rules_plan.specs.laws.Permitted.{permitted-by}
 use Rattle.rules_box.specs.laws.Invariant.{AtWork, Inv, next-value, older-at-work, step-inv, reached-inv}
 use Rattle.rules_box.proofs.Places.{fate-cases, event-one, joins-as-asked}
 
@@ -69,7 +69,7 @@ module _ (p : Plan) (ok : Sound p) (e : Entry) (me : List·Memᴰ e (p .entries)
       go (some l) h = let z = outlives (inSequence last byte) o l h in absurd (on l z (older-at-work p last byte (e .initiator) o l old z))
 
   -- so a request that it allows starts, or comes one place forward
-  own-visit : (s : Side) (k : ℕ) (r : state.Request) → ((m : Live) → s .live ≡ some m → AtWork p last (e .initiator) m) → atPlace k (s .line) ≡ some r → allows p e r ≡ true
+  pub own-visit : (s : Side) (k : ℕ) (r : state.Request) → ((m : Live) → s .live ≡ some m → AtWork p last (e .initiator) m) → atPlace k (s .line) ≡ some r → allows p e r ≡ true
       → (P : Fate → Type 0) → P starts → ((j : ℕ) → suc j ≡ k → P (waits j)) → P (fateBy (startOf p (inSequence last byte) byte (e .initiator) s) k)
   unfolding fateBy leaving
   own-visit s k r old at fit P f g = go (first-has (allows p e) (s .line) k r at fit)

@@ -3,6 +3,7 @@ pub mod Order
 pub mod Visits
 pub mod Places
 pub mod InTime
+pub mod AtTurn
 pub mod Lives
 pub mod Between
 pub mod Late

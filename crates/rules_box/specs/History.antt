@@ -28,6 +28,11 @@ pub record Offer : Type 0 where
 unfoldable pub offered : Box → Offer → Box
 offered b f = (step (f .room) b (f .lent) (f .event)) .box
 
+-- the box after the events
+unfoldable pub after : Box → List Offer → Box
+after b [] = b
+after b (f ∷ fs) = after (offered b f) fs
+
 -- a time-code that is accepted; and one that is in sequence
 unfoldable pub isTick : Box → ℕ → Event → Bool
 isTick b room (TimeCode byte clock) = eqb (refusal room b (TimeCode byte clock)) 0

@@ -10,8 +10,10 @@ use lib.Dec.{eqb, ltb, leb}
 use Rattle.lists.specs.Search.{keep}
 use Rattle.lists.specs.Place.{atPlace}
 use Rattle.lists.specs.Order.{Rising}
+use Rattle.rules_plan.specs.declared.Next.the-variants.{Turn}
 use Rattle.rules_plan.specs.Plan.{Plan, Entry}
 use Rattle.rules_plan.specs.Meaning.{uses, permits}
+use Rattle.rules_plan.specs.Next.{slotAfter, nextAnswer}
 use Rattle.rules_plan.specs.Verdict.{number}
 use Rattle.rules_plan.specs.Judge.{judge}
 use Rattle.rules_box.specs.declared.Event.{Event}
@@ -25,7 +27,7 @@ use Rattle.rules_box.specs.Refuse.{refusal, recordSize, mostRecords}
 use Rattle.rules_box.specs.Turn.{inSequence, valueOf, class, aged, turned}
 use Rattle.rules_box.specs.Records.{Record, recordBytes, full, records}
 use Rattle.rules_box.specs.Step.{step, Outcome}
-use Rattle.rules_box.specs.History.{Reached, Offer, lasting, ticks, allNext, Fate, starts, waits, fate, hasStarted}
+use Rattle.rules_box.specs.History.{Reached, Offer, after, lasting, ticks, allNext, Fate, starts, waits, fate, hasStarted}
 
 -- Demand 1. "A refused event changes nothing": it answers its number, and box, watchdog and records are as they were.
 unfoldable pub RefusedEventChangesNothing : Type 0
@@ -105,6 +107,23 @@ RequestsStartInTime =
     let joined = (step room b w (Request i t k n)) .box in
     let place = length ((b .side i) .line) in
     (fs : List Offer) → allNext joined fs ≡ true → 64 * (place + 1) ≤ ticks joined fs → hasStarted i place joined fs ≡ true
+
+-- T-04, for the running box. Where a time-code was accepted since the load, the next turn is counted from its slot, "the slot after a given one" being
+-- that of the next time-code in sequence.
+unfoldable pub slotNow : Box → Option ℕ
+slotNow b = Option·map valueOf (b .last)
+
+-- A request that joins an empty line gets a count, and starts at the time-code that has this number among those accepted from then on, if these are
+-- in sequence: it has started as soon as there were so many, and not before. That time-code's value is the slot so many on.
+pub record StartsAtCount (i s c : ℕ) (joined : Box) : Type 0 where
+  pub when : (fs : List Offer) → allNext joined fs ≡ true → hasStarted i 0 joined fs ≡ leb c (ticks joined fs)
+  pub slot : (fs : List Offer) → allNext joined fs ≡ true → slotNow (after joined fs) ≡ some (slotAfter s (ticks joined fs))
+
+unfoldable pub StartsAtItsTurn : Type 0
+StartsAtItsTurn =
+    (b : Box) → Reached b → (room : ℕ) (w : Watchdog) (i t k n : ℕ) → refusal room b (Request i t k n) ≡ 0 →
+    (b .side i) .line ≡ [] → (s : ℕ) → slotNow b ≡ some s →
+    (c : ℕ) × (nextAnswer (b .plan) i t n s ≡ Turn c) × StartsAtCount i s c ((step room b w (Request i t k n)) .box)
 
 -- It is this very request: where it waits, the line holds it at that place; where it starts, its record is written and it is live.
 pub record HasStarted (i : ℕ) (r : state.Request) (o : Outcome) : Type 0 where
@@ -210,6 +229,7 @@ pub record Promises : Type 0 where
   pub between : NotEvenBetweenRecords
   pub as-told : NotEvenAsTold
   pub in-time : RequestsStartInTime
+  pub at-turn : StartsAtItsTurn
   pub this-one : ThisVeryRequest
   pub joins : JoinsAsAsked
   pub entries : StartsOnlyAtEntries

@@ -2,13 +2,12 @@
 use Prim.Native.Nat.{ℕ, _*_}
 use mathlib.Core.List.{List, [], _∷_}
 use mathlib.Core.Option.{Option, none, some}
-use mathlib.Core.Bool.{Bool, false, not, _&&_}
+use mathlib.Core.Bool.{Bool, false, not}
 use lib.ListN.{length}
 use lib.Dec.{ltb, leb, eqb}
-use Rattle.lists.specs.Search.{any, isSome}
+use Rattle.lists.specs.Search.{isSome}
 use Rattle.lists.specs.Rows.{Row, firstOf}
-use Rattle.rules_plan.specs.Plan.{Entry, Plan}
-use Rattle.rules_plan.specs.Meaning.{isInitiator, permits}
+use Rattle.rules_plan.specs.Meaning.{isInitiator, mayStart}
 use Rattle.rules_box.specs.declared.Event.{Event}
 use Rattle.rules_box.specs.declared.Event.the-variants.{TimeCode, Request, Reply, Reading}
 use Rattle.rules_box.specs.State.{Box, Live, noPlan, thePlan}
@@ -23,10 +22,6 @@ recordSize = 8
 
 abbrev pub mostRecords : ℕ
 mostRecords = 17
-
--- 25: some entry of initiator i permits the target with the length
-unfoldable pub mayStart : Plan → List Entry → ℕ → ℕ → ℕ → Bool
-mayStart p es i t n = any (λ (e : Entry). eqb i (e .initiator) && permits p e t n) es
 
 -- 28: the live one's number is m
 unfoldable pub isLiveNumber : ℕ → Option Live → Bool

@@ -5,9 +5,12 @@ use mathlib.Core.Path.{_≡_}
 use mathlib.Core.List.{List, [], _∷_, _++_, map, flatMap}
 use Rattle.rules_plan.specs.declared.Sheet.{Sheet}
 use Rattle.rules_plan.specs.declared.Sheet.the-variants.{NoSheet, Terms}
+use Rattle.rules_plan.specs.declared.Next.{Next}
+use Rattle.rules_plan.specs.declared.Next.the-variants.{NoTurn, Turn}
 use Rattle.rules_plan.specs.Plan.{Times, Item, device, link, path, entry, timing, times, reply}
 use Rattle.rules_plan.specs.Fields.{fieldFor}
 use Rattle.rules_plan.specs.Sheet.{sheetAnswer}
+use Rattle.rules_plan.specs.Next.{nextAnswer}
 use Rattle.rules_plan.specs.Judge.{judge}
 use Rattle.rules_plan.specs.Print.{text, line}
 use Rattle.rules_box.specs.declared.Event.{Event}
@@ -83,13 +86,15 @@ twoWays replies =
     ∷ timing (record { least = 90; greatest = 110 })
     ∷ replies)
 
--- what is done: a file is judged; a file is loaded and events follow, each with room for 17 records; or the sheet is asked for
+-- what is done: a file is judged; a file is loaded and events follow, each with room for 17 records; the sheet is asked for; or a file is loaded
+-- and the next turn asked for
 pub data Given : Type 0 where
   judged : List ℕ → Given
   fed : List ℕ → List Event → Given
   asked : Times → (out home n : ℕ) → Given
+  awaited : List ℕ → (i t n s : ℕ) → Given
 
--- what is shown: the whole output; the answer of each event and the bytes of its records; or the sheet
+-- what is shown: the whole output; the answer of each event and the bytes of its records; the sheet; or the next turn
 pub record Seen : Type 0 where
   pub answer : Answer
   pub bytes : List ℕ
@@ -98,6 +103,7 @@ pub data Shown : Type 0 where
   output : List ℕ → Shown
   answers : List Seen → Shown
   terms : Sheet → Shown
+  turn : Next → Shown
 
 unfoldable pub seen : Box → Watchdog → List Event → List Seen
 seen b w [] = []
@@ -109,6 +115,7 @@ unfoldable pub outcome : Given → Shown
 outcome (judged s) = output (line (judge s))
 outcome (fed s es) = answers (seen (loaded s) (watchdogLoaded s) es)
 outcome (asked x out home n) = terms (sheetAnswer x out home n)
+outcome (awaited file i t n s) = turn (nextAnswer ((loaded file) .plan) i t n s)
 
 pub record Sample : Type 0 where
   pub given : Given
@@ -123,6 +130,10 @@ requests s lengths given = record {
   given = fed s (map (λ (n : ℕ). Request 1 2 0 n) lengths);
   shown = answers (map (λ (a : Answer). record { answer = a; bytes = [] }) given);
 }
+
+-- the next turn of initiator i with n bytes to target t, asked from a slot
+unfoldable pub next : List ℕ → (i t n s : ℕ) → Next → Sample
+next file i t n s answer = record { given = awaited file i t n s; shown = turn answer }
 
 unfoldable pub samples : List Sample
 samples =
@@ -180,6 +191,20 @@ samples =
     ∷ record { given = asked (fiveThousandEach 0) 0 4 256; shown = terms (Terms 36_850 0 1_000 12_850 2_400 600) }
     ∷ record { given = asked (fiveThousandEach 0) 4 8 256; shown = terms (NoSheet 6) }
     ∷ requests (overFour 36_650 ++ fieldFor (home 1 2 (5 ∷ []))) (256 ∷ 257 ∷ []) (Joined 0 ∷ Refused 25 ∷ [])
+    -- T-04: "counted 1 to 64: 1 is the slot after a given one, 64 that slot again"; initiator 1 has its entry at slot 0
+    ∷ next firstPlan 1 3 256 63 (Turn 1)
+    ∷ next firstPlan 1 3 256 0 (Turn 64)
+    ∷ next firstPlan 1 3 0 1 (Turn 63)
+    -- an entry stands at 63 and covers slot 0 too, where nothing starts
+    ∷ next (planA (at 1 63 2 (3 ∷ []) ∷ [])) 1 3 512 62 (Turn 1)
+    ∷ next (planA (at 1 63 2 (3 ∷ []) ∷ [])) 1 3 512 63 (Turn 64)
+    -- "Refusals: 20, 22, 24, 25 as for a request; a slot over 63 is 33, after 25"
+    ∷ next [] 1 3 256 64 (NoTurn 20)
+    ∷ next firstPlan 3 1 4_097 64 (NoTurn 22)
+    ∷ next firstPlan 1 3 4_097 64 (NoTurn 24)
+    ∷ next firstPlan 1 3 257 64 (NoTurn 25)
+    ∷ next firstPlan 1 4 256 0 (NoTurn 25)
+    ∷ next firstPlan 1 3 256 64 (NoTurn 33)
     ∷ []
 
 -- every row shows what the definitions give

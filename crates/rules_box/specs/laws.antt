@@ -1,6 +1,5 @@
 pub mod Turns
 pub mod Steps
 pub mod Invariant
-pub mod Permitted
 pub mod Fit
 pub mod Counts

@@ -6,6 +6,7 @@ pub mod OutOfRange
 pub mod WrongItems
 pub mod Faults
 pub mod Meaning
+pub mod Turns
 pub mod Reading
 pub mod Words
 pub mod Exactly

@@ -2,6 +2,7 @@ pub mod Plan
 pub mod Fields
 pub mod Sheet
 pub mod Meaning
+pub mod Next
 pub mod Verdict
 pub mod Judge
 pub mod Canon

@@ -109,6 +109,10 @@ leastSpan p i t n = firstFrom 16 1 (fitsIn p i t n)
 unfoldable pub permits : Plan → Entry → ℕ → ℕ → Bool
 permits p e t n = isIn t (e .targets) && fits p e t n
 
+-- some entry of initiator i, among the entries es, permits the target with the length: what refusal 25 asks
+unfoldable pub mayStart : Plan → List Entry → ℕ → ℕ → ℕ → Bool
+mayStart p es i t n = any (λ (e : Entry). eqb i (e .initiator) && permits p e t n) es
+
 -- the entry of initiator i at slot v, among the entries es
 unfoldable pub standsAt : ℕ → ℕ → Entry → Bool
 standsAt i v e = eqb i (e .initiator) && eqb v (e .slot)

@@ -2,13 +2,16 @@
 use mathlib.Core.Path.{_≡_}
 use mathlib.Core.Logic.{_↔_, _⊎_}
 use mathlib.Core.List.{List, [], _∷_, List·Memᴰ}
+use mathlib.Core.Option.{some}
 use mathlib.Core.Bool.{true, false}
 use Prim.Native.Nat.{ℕ, _+_, _*_, _%_, _≤_, _<_}
 use lib.ListN.{length}
 use Rattle.lists.specs.Search.{repeats}
 use Rattle.rules_plan.specs.declared.Verdict.{Verdict}
+use Rattle.rules_plan.specs.declared.Next.the-variants.{NoTurn, Turn}
 use Rattle.rules_plan.specs.Plan.{Route, Entry, Times, Plan}
-use Rattle.rules_plan.specs.Meaning.{isWalk, covers, uses, homeOf, routers, permits}
+use Rattle.rules_plan.specs.Meaning.{isInitiator, isWalk, covers, uses, homeOf, routers, permits}
+use Rattle.rules_plan.specs.Next.{nextAnswer}
 use Rattle.rules_plan.specs.Verdict.{number}
 use Rattle.rules_plan.specs.Sheet.{sheet}
 use Rattle.rules_plan.specs.Judge.{judge}
@@ -67,6 +70,33 @@ PermitsAsWorded = (p : Plan) (e : Entry) (t n : ℕ) → (permits p e t n ≡ tr
 unfoldable pub LongerTakesLonger : Type 0
 LongerTakesLonger = (x : Times) (out home m n : ℕ) → m ≤ n → sheet x out home m ≤ sheet x out home n
 
+-- T-04: "the next slot in which initiator i may start a request": an entry stands at the slot that permits it
+pub record TurnAt (p : Plan) (i t n v : ℕ) : Type 0 where
+  pub entry : Entry
+  pub has : List·Memᴰ entry (p .entries)
+  pub own : entry .initiator ≡ i
+  pub here : entry .slot ≡ v
+  pub permitted : permits p entry t n ≡ true
+
+-- "counted 1 to 64: 1 is the slot after a given one, 64 that slot again": count c leads to a turn, and none before it does
+pub record NextIs (p : Plan) (i t n s c : ℕ) : Type 0 where
+  pub some : 1 ≤ c
+  pub most : c ≤ 64
+  pub turn : TurnAt p i t n ((s + c) % 64)
+  pub first : (k : ℕ) → 1 ≤ k → k < c → TurnAt p i t n ((s + k) % 64) → ⊥
+
+-- A count is answered for an initiator of the plan, at a slot up to 63, exactly where it leads to the next turn.
+unfoldable pub NextAsWorded : Type 0
+NextAsWorded =
+    (p : Plan) → Sound p → (i t n s c : ℕ) →
+    (nextAnswer (some p) i t n s ≡ Turn c) ↔ ((isInitiator p i ≡ true) × (s < 64) × NextIs p i t n s c)
+
+-- "The answer equals the one got by reading all entries": 25 says that no slot is a turn.
+unfoldable pub NoTurnAsWorded : Type 0
+NoTurnAsWorded =
+    (p : Plan) → Sound p → (i t n s : ℕ) → isInitiator p i ≡ true → n ≤ 4_096 →
+    (nextAnswer (some p) i t n s ≡ NoTurn 25) ↔ ((v : ℕ) → TurnAt p i t n v → ⊥)
+
 -- "A path is a walk": what is computed of links is the walk in words.
 unfoldable pub WalksAsWorded : Type 0
 WalksAsWorded =
@@ -111,6 +141,8 @@ pub record Promises : Type 0 where
   pub home : HomeAsWorded
   pub permits : PermitsAsWorded
   pub longer : LongerTakesLonger
+  pub next : NextAsWorded
+  pub no-turn : NoTurnAsWorded
   pub walks : WalksAsWorded
   pub words : VerdictsAsWorded
   pub alone : NoEntryMeetsNothing

@@ -28,6 +28,8 @@ pub mod Copies
 pub mod GoodSound
 pub mod Spans
 pub mod Runs
+pub mod Permitted
+pub mod Turns
 pub mod Same
 pub mod SameVerdict
 pub mod SameItems

@@ -58,6 +58,12 @@ pub enum Sheet {
     },
 }
 
+// When the next turn is: the refusal, or how many slots on it is. `nextNumbers` of specs/Next gives the number and the count of each case.
+pub enum Next {
+    NoTurn { number: u8 },
+    Turn { count: u8 },
+}
+
 // What is promised of the definitions. It does nothing: its contract is the theorem.
 pub fn promises()
     ensures { λ _. ⌜ Promises ⌝ }

@@ -43,17 +43,7 @@ pub fn step(
             kind,
             length,
         } => {
-            let answer = request(
-                rows,
-                spans,
-                aims,
-                numbers,
-                run,
-                initiator,
-                target,
-                kind,
-                length,
-            );
+            let answer = request(rows, aims, numbers, run, initiator, target, kind, length);
             Stepped {
                 answer,
                 watchdog: w,

@@ -1,6 +1,5 @@
 // A request: "Joins its initiator's line and gets that initiator's next 16-bit transaction number". Refusals 20 and 22 are told in no_row,
-// 26 in asking.
-ghost use mathlib.Core.Path.{_≡_};
+// 24 and 25 in ask_next, 26 in asking.
 ghost use mathlib.Core.List.{List};
 ghost use Prim.Native.Nat.{ℕ};
 ghost use Rattle.rules_box.specs.declared.Event.the-variants.{Request};
@@ -9,30 +8,19 @@ ghost use Rattle.rules_box.specs.State.{Box};
 ghost use Rattle.rules_box.specs.Step as rules;
 ghost use Rattle.memory_run.specs.Row.{IsRun};
 ghost use Rattle.memory_run.specs.Memory.{Finds, Answers};
-ghost use Rattle.run_requests.specs.NotPermitted.{notPermitted};
 use crate::asking::ask_row;
-use crate::asking::may_start;
 use crate::no_row::no_row;
+use ask_next::refused::no_turn;
+use bitsets::is_empty;
 use memory_plan::entry::least_span;
 use memory_plan::layout::*;
 use memory_plan::rows::first_row;
+use memory_plan::turns::turns;
 use memory_run::layout::*;
 use rules_box::Answer;
 
-// 24 "length over 4,096", 25 "no entry of this initiator permits the target …". What an entry permits is never longer: only where none does
-// is 24 told from 25.
-fn not_permitted(length: u16) -> Answer
-    ensures { λ r. ⌜ r ≡ notPermitted length ⌝ }
-{
-    if 4096 < length {
-        return Answer::Refused { number: 24 };
-    }
-    Answer::Refused { number: 25 }
-}
-
 pub fn request(
     rows: &Rows,
-    spans: &Spans,
     aims: &Aims,
     numbers: &Numbers,
     run: &mut [u64],
@@ -42,7 +30,7 @@ pub fn request(
     length: u16,
 ) -> Answer
     requires { ⌜ IsRun (now run) ⌝ }
-    ensures { λ r. ⌜ ((b : Box) (last : List ℕ) → Finds b (now (rows .entry)) (now (spans .entry)) (now (aims .entry)) (now (numbers .entry)) (now (run .entry)) last →
+    ensures { λ r. ⌜ ((b : Box) (spans last : List ℕ) → Finds b (now (rows .entry)) spans (now (aims .entry)) (now (numbers .entry)) (now (run .entry)) last →
         (room : ℕ) (w : Watchdog) → Answers (rules.step room b w (Request initiator target kind length)) r (now (run .exit)) last) ⌝ }
 {
     // A branch is foretold, where all that follows would wait for a row that is worked out.
@@ -58,11 +46,13 @@ pub fn request(
     }
     // No entry has a target over 63.
     if 64 <= target {
-        return not_permitted(length);
+        let number = no_turn(length);
+        return Answer::Refused { number };
     }
     let need = least_span(numbers, row, target, length);
-    if !may_start(spans, aims, row, target, need) {
-        return not_permitted(length);
+    if is_empty(turns(aims, row, target, need)) {
+        let number = no_turn(length);
+        return Answer::Refused { number };
     }
     ask_row(
         &mut run[row * ROW..row * ROW + ROW],

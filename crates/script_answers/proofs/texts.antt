@@ -3,3 +3,4 @@ pub mod Printed
 pub mod Events
 pub mod Copies
 pub mod Sheets
+pub mod Nexts

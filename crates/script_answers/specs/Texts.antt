@@ -7,8 +7,10 @@ use lib.ListN.{length, getD, take, drop}
 use lib.Dec.{eqb}
 use Rattle.rules_plan.specs.Print.{text, decimal}
 use Rattle.rules_plan.specs.declared.Sheet.{Sheet}
+use Rattle.rules_plan.specs.declared.Next.{Next}
 use Rattle.rules_plan.specs.Copy.{Sized}
 use Rattle.rules_plan.specs.Sheet.{sheetNumbers}
+use Rattle.rules_plan.specs.Next.{nextNumbers}
 use Rattle.rules_box.specs.declared.Event.{Event}
 use Rattle.rules_box.specs.declared.Event.the-variants.{TimeCode, Request, Reply, Reading}
 use Rattle.rules_box.specs.declared.Watchdog.{Watchdog}
@@ -58,6 +60,10 @@ watchdogLine w = numbersLine (w .last ∷ yesOrNo (w .seen) ∷ yesOrNo (w .repo
 -- what the sheet prints, its number and the sum: "N NANOSECONDS"
 unfoldable pub sheetLine : Sheet → List ℕ
 sheetLine s = numbersLine (take 2 (sheetNumbers s))
+
+-- what the question for the next turn prints: "N COUNT"
+unfoldable pub nextLine : Next → List ℕ
+nextLine n = numbersLine (nextNumbers n)
 
 -- a buffer with a line at its front: the line's length, and the rest of the buffer as it was
 pub record Prints (line before after : List ℕ) (end : ℕ) : Type 0 where

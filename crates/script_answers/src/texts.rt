@@ -2,7 +2,7 @@
 ghost use mathlib.Core.Path.{_≡_};
 ghost use Prim.Native.Nat.{_*_, _≤_};
 ghost use lib.ListN.{length};
-ghost use Rattle.script_answers.specs.Texts.{ended, errorLine, numbersLine, bytesLine, eventLine, outLine, yesOrNo, watchdogLine, sheetLine, Prints};
+ghost use Rattle.script_answers.specs.Texts.{ended, errorLine, numbersLine, bytesLine, eventLine, outLine, yesOrNo, watchdogLine, sheetLine, nextLine, Prints};
 ghost use Rattle.rules_plan.specs.Copy.{sized};
 ghost use Rattle.rules_box.specs.Answer.{Values};
 ghost use Rattle.rules_box.specs.Refuse.{recordSize};
@@ -13,6 +13,7 @@ use bytes_put::put_decimal;
 use rules_box::Event;
 use rules_box::Watchdog;
 use rules_plan::Copied;
+use rules_plan::Next;
 use rules_plan::Sheet;
 use script_hex::put_hex;
 use script_words::put_numbers;
@@ -141,6 +142,22 @@ pub fn put_sheet(out: &mut [u8; 65600], sheet: Sheet) -> usize
         }
         Sheet::Terms { sum, b, c, e, h, i } => {
             let ns = [0, sum];
+            put_row(out, &ns)
+        }
+    }
+}
+
+// The line of the question for the next turn: its number, and the count or 0.
+pub fn put_next(out: &mut [u8; 65600], next: Next) -> usize
+    ensures { λ r. ⌜ Prints (nextLine next) (now (out .entry)) (now (out .exit)) r ⌝ }
+{
+    match next {
+        Next::NoTurn { number } => {
+            let ns = [number as u32, 0];
+            put_row(out, &ns)
+        }
+        Next::Turn { count } => {
+            let ns = [0, count as u32];
             put_row(out, &ns)
         }
     }

@@ -4,7 +4,7 @@ use mathlib.Core.Path.{_≡_}
 use mathlib.Core.List.{List, [], _∷_, map}
 use Rattle.rules_plan.specs.Print.{text}
 use Rattle.script_commands.specs.declared.command.Command.{Command}
-use Rattle.script_commands.specs.declared.command.Command.the-variants.{Skip, Bad, Load, Clear, TimeCode, Request, Reply, Reading, Out, Watchdog, SetWatchdog, Sheet}
+use Rattle.script_commands.specs.declared.command.Command.the-variants.{Skip, Bad, Load, Clear, TimeCode, Request, Reply, Reading, Out, Watchdog, SetWatchdog, Sheet, Next}
 use Rattle.script_commands.specs.Script.{commandOf}
 
 unfoldable pub samples : List (String × Command)
@@ -56,6 +56,15 @@ samples =
     ∷ ("sheet2 4 7 200 256 1 2 3", Bad)
     ∷ ("sheet2 4 7 200 256 1 2 3 4 5", Bad)
     ∷ ("sheet22 4 7 200 256 1 2 3 4", Bad)
+    ∷ ("next 1 3 256 63", Next 1 3 256 63)
+    ∷ ("next 255 254 65535 253", Next 255 254 65_535 253)
+    ∷ ("next 256 3 256 63", Bad)
+    ∷ ("next 1 256 256 63", Bad)
+    ∷ ("next 1 3 65536 63", Bad)
+    ∷ ("next 1 3 256 256", Bad)
+    ∷ ("next 1 3 256", Bad)
+    ∷ ("next 1 3 256 63 0", Bad)
+    ∷ ("nex 1 3 256 63", Bad)
     -- the bytes
     ∷ ("load -", Load 5)
     ∷ ("load 5", Bad)

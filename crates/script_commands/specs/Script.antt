@@ -11,7 +11,7 @@ use Rattle.script_hex.specs.Hex.{bytesOf}
 use Rattle.script_commands.specs.declared.command.Kind.{Kind}
 use Rattle.script_commands.specs.declared.command.Kind.the-variants as kind
 use Rattle.script_commands.specs.declared.command.Command.{Command}
-use Rattle.script_commands.specs.declared.command.Command.the-variants.{Skip, Bad, Load, Clear, TimeCode, Request, Reply, Reading, Out, Watchdog, SetWatchdog, Sheet}
+use Rattle.script_commands.specs.declared.command.Command.the-variants.{Skip, Bad, Load, Clear, TimeCode, Request, Reply, Reading, Out, Watchdog, SetWatchdog, Sheet, Next}
 
 -- the greatest numbers that may stand behind a command's name, and the command that they make
 unfoldable pub mosts : Kind → List ℕ
@@ -30,6 +30,8 @@ mosts kind.SetWatchdog = 4_294_967_295 ∷ 4_294_967_295 ∷ 4_294_967_295 ∷ 4
 mosts kind.Sheet = 255 ∷ 65_535 ∷ 65_535 ∷ 4_294_967_295 ∷ 4_294_967_295 ∷ 4_294_967_295 ∷ 4_294_967_295 ∷ []
 -- T-03: "RC RR S D A DD F G", "with RC routers on the command's way and RR on the reply's"
 mosts kind.SheetBoth = 255 ∷ 255 ∷ 65_535 ∷ 65_535 ∷ 4_294_967_295 ∷ 4_294_967_295 ∷ 4_294_967_295 ∷ 4_294_967_295 ∷ []
+-- T-04: "I T D SLOT", "(I, T, SLOT 0 to 255, D 0 to 65,535)"
+mosts kind.Next = 255 ∷ 255 ∷ 65_535 ∷ 255 ∷ []
 
 unfoldable pub made : Kind → List ℕ → Command
 made kind.TimeCode ns = TimeCode (getD ns 0 0) (getD ns 1 0) (getD ns 2 0)
@@ -40,6 +42,7 @@ made kind.Out ns = Out (getD ns 0 0)
 made kind.SetWatchdog ns = SetWatchdog (getD ns 0 0) (getD ns 1 0) (getD ns 2 0) (getD ns 3 0) (getD ns 4 0)
 made kind.Sheet ns = Sheet (getD ns 0 0) (getD ns 0 0) (getD ns 1 0) (getD ns 2 0) (getD ns 3 0) (getD ns 4 0) (getD ns 5 0) (getD ns 6 0)
 made kind.SheetBoth ns = Sheet (getD ns 0 0) (getD ns 1 0) (getD ns 2 0) (getD ns 3 0) (getD ns 4 0) (getD ns 5 0) (getD ns 6 0) (getD ns 7 0)
+made kind.Next ns = Next (getD ns 0 0) (getD ns 1 0) (getD ns 2 0) (getD ns 3 0)
 
 -- the table: a command's name, and the command by the words behind it
 unfoldable pub numbered : Kind → List (List ℕ) → Command
@@ -70,6 +73,7 @@ commands =
     ∷ (text "setwd", numbered kind.SetWatchdog)
     ∷ (text "sheet", numbered kind.Sheet)
     ∷ (text "sheet2", numbered kind.SheetBoth)
+    ∷ (text "next", numbered kind.Next)
     ∷ []
 
 unfoldable pub named : List Row → List ℕ → List (List ℕ) → Command

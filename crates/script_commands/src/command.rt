@@ -60,6 +60,12 @@ pub enum Command {
         f: u32,
         g: u32,
     },
+    Next {
+        initiator: u8,
+        target: u8,
+        length: u16,
+        slot: u8,
+    },
 }
 
 // "R 0 to 255, S, D 0 to 65,535, latencies 0 to 4,294,967,295"
@@ -95,6 +101,7 @@ enum Kind {
     SetWatchdog,
     Sheet,
     SheetBoth,
+    Next,
 }
 
 // "load HEX"
@@ -185,6 +192,12 @@ fn numbered(line: &[u8], end: usize, bounds: &[u32], kind: Kind) -> Command
             f: ns[6],
             g: ns[7],
         },
+        Kind::Next => Command::Next {
+            initiator: ns[0] as u8,
+            target: ns[1] as u8,
+            length: ns[2] as u16,
+            slot: ns[3] as u8,
+        },
     }
 }
 
@@ -226,6 +239,9 @@ fn named(line: &[u8], end: usize) -> Command
     }
     if same(name, b"sheet2") {
         return numbered(line, end, &SHEET_BOTH, Kind::SheetBoth);
+    }
+    if same(name, b"next") {
+        return numbered(line, end, &[255, 255, 65_535, 255], Kind::Next);
     }
     Command::Bad
 }

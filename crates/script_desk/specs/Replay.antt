@@ -10,6 +10,7 @@ use Rattle.rules_plan.specs.Print.{text}
 use Rattle.rules_plan.specs.Print as print
 use Rattle.rules_plan.specs.Copy.{sized, copyAnswer, copied}
 use Rattle.rules_plan.specs.Sheet.{sheetAnswer}
+use Rattle.rules_plan.specs.Next.{nextAnswer}
 use Rattle.time_sheet.specs.Paced.{paced}
 use Rattle.memory_plan.specs.PlanHeld.{PlanHeld}
 use Rattle.rules_box.specs.declared.Event.{Event}
@@ -20,8 +21,8 @@ use Rattle.rules_box.specs.Answer.{values}
 use Rattle.box_calls.specs.Calls.{Memory, ClearLeaves, LoadLeaves, Lent, StepLeaves}
 use Rattle.script_hex.specs.Hex.{bytesOf}
 use Rattle.script_commands.specs.declared.command.Command.{Command}
-use Rattle.script_commands.specs.declared.command.Command.the-variants.{Skip, Bad, Load, Clear, TimeCode, Request, Reply, Reading, Out, Watchdog, SetWatchdog, Sheet}
-use Rattle.script_answers.specs.Texts.{ended, errorLine, eventLine, outLine, watchdogLine, sheetLine, Prints}
+use Rattle.script_commands.specs.declared.command.Command.the-variants.{Skip, Bad, Load, Clear, TimeCode, Request, Reply, Reading, Out, Watchdog, SetWatchdog, Sheet, Next}
+use Rattle.script_answers.specs.Texts.{ended, errorLine, eventLine, outLine, watchdogLine, sheetLine, nextLine, Prints}
 
 -- what is kept between commands: "The program keeps the five numbers between commands, as a box's caller does."
 pub record Kept : Type 0 where
@@ -56,6 +57,10 @@ HeldIn m o = PlanHeld o (m .sets) (m .ends) (m .rows) (m .reach) (m .paths) (m .
 abbrev pub WrittenOut : ℕ → Memory → List ℕ → Type 0
 WrittenOut room m printed = (o : Option Plan) → HeldIn m o → printed ≡ outLine (sized (copyAnswer room o)) (copied o (replicate room 0))
 
+-- the question for the next turn
+abbrev pub NextAsked : (i t n s : ℕ) → Memory → List ℕ → Type 0
+NextAsked i t n s m printed = (o : Option Plan) → HeldIn m o → printed ≡ nextLine (nextAnswer o i t n s)
+
 -- "A line that is none of these … prints `ERROR line N` … and changes nothing."
 unfoldable pub Replied : Command → List ℕ → ℕ → Kept → Kept → List ℕ → Type 0
 Replied Skip line n before after printed = (after ≡ before) × (printed ≡ [])
@@ -71,6 +76,7 @@ Replied Watchdog line n before after printed = (after ≡ before) × (printed �
 Replied (SetWatchdog last seen reported least greatest) line n before after printed =
     (after ≡ kept (before .memory) (fiveOf last seen reported least greatest)) × (printed ≡ ended (text "OK"))
 Replied (Sheet there home s size a d f g) line n before after printed = (after ≡ before) × (printed ≡ sheetLine (sheetAnswer (paced s a d f g) there home size))
+Replied (Next i t size s) line n before after printed = (after ≡ before) × NextAsked i t size s (before .memory) printed
 
 -- what is printed stands at the front of a buffer
 pub record Answers (Told : List ℕ → Type 0) (before after : List ℕ) (end : ℕ) : Type 0 where

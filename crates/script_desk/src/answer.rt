@@ -8,6 +8,7 @@ ghost use Rattle.script_hex.specs.Hex.{decoded};
 ghost use Rattle.script_commands.specs.Script.{commandOf};
 ghost use Rattle.script_answers.specs.Texts.{overLongLine, Prints};
 ghost use Rattle.script_desk.specs.Replay.{fiveOf, kept, Loaded, Stepped, WrittenOut, Replied, Answers};
+use ask_next::next::next;
 use bytes_put::put;
 use memory_plan::layout::*;
 use memory_run::layout::*;
@@ -18,6 +19,7 @@ use run_events::values::values_of;
 use script_answers::texts::put_copied;
 use script_answers::texts::put_error;
 use script_answers::texts::put_event;
+use script_answers::texts::put_next;
 use script_answers::texts::put_sheet;
 use script_answers::texts::put_watchdog;
 use script_answers::texts::put_word;
@@ -400,6 +402,16 @@ pub fn answer(
         } => {
             let sheet = time_sheet::sheet(there, home, rate, length, a, d, f, g);
             let end = put_sheet(out, sheet);
+            Answered { end, watchdog }
+        }
+        Command::Next {
+            initiator,
+            target,
+            length,
+            slot,
+        } => {
+            let turn = next(rows, aims, numbers, initiator, target, length, slot);
+            let end = put_next(out, turn);
             Answered { end, watchdog }
         }
     }

@@ -76,14 +76,14 @@ module _ {eight : List ℕ} (a : Answer) (told : eight ≡ listed (values a)) wh
     };
   }
 
-  pub requests : {rows spans aims numbers run run′ : List ℕ} {i t k n : ℕ}
-      → ((b : Box) (last : List ℕ) → Finds b rows spans aims numbers run last → (room : ℕ) (w : Watchdog) → Answers (step room b w (Request i t k n)) a run′ last)
-      → Requests rows spans aims numbers run i t k n run′ eight
+  pub requests : {rows aims numbers run run′ : List ℕ} {i t k n : ℕ}
+      → ((b : Box) (spans last : List ℕ) → Finds b rows spans aims numbers run last → (room : ℕ) (w : Watchdog) → Answers (step room b w (Request i t k n)) a run′ last)
+      → Requests rows aims numbers run i t k n run′ eight
   requests {run′ = run′} does = record {
     steps = record {
       answer = a;
       numbers = told;
-      does = λ last w records b f. by-request (length records) b w _ a run′ last records _ _ _ _ refl (does b last f (length records) w);
+      does = λ spans last w records b f. by-request (length records) b w _ a run′ last records _ _ _ _ refl (does b spans last f (length records) w);
     };
   }
 

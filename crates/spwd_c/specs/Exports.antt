@@ -7,12 +7,15 @@ use Prim.Native.Nat.{ℕ, _≤_}
 use mathlib.Core.List.{List, _++_}
 use lib.ListN.{length, drop}
 use Rattle.rules_plan.specs.declared.Copied.{Copied}
+use Rattle.rules_plan.specs.declared.Next.{Next}
 use Rattle.rules_plan.specs.Plan.{nth}
 use Rattle.rules_plan.specs.Sheet.{sheetAnswer, sheetNumbers}
+use Rattle.rules_plan.specs.Next.{nextNumbers}
 use Rattle.rules_plan.specs.Judge.{judge}
 use Rattle.rules_plan.specs.Print as print
 use Rattle.memory_plan.specs.Memory as plan
 use Rattle.out_plan.specs.Out.{WritesOut}
+use Rattle.ask_next.specs.Asked.{TellsNext}
 use Rattle.load_plan.specs.Load.{planLeft, HoldsPlanOf}
 use Rattle.rules_box.specs.declared.Event.the-variants.{TimeCode, Request, Reply, Reading}
 use Rattle.rules_box.specs.declared.Answer.{Answer}
@@ -28,7 +31,7 @@ use Rattle.c_numbers.specs.Numbers.{verdictNumbers, verdictOf, sizedNumbers}
 -- `spwd_c_version`: one more with each change of what is lent, of the numbers that calls take and give back, or of the bytes of a plan file
 -- or a record. `c/spwd.h` and `rust/spwd` name the version that they are written for.
 abbrev pub interfaceVersion : ℕ
-interfaceVersion = 4
+interfaceVersion = 5
 
 -- `spwd_c_load`
 pub record Loads (file : List ℕ) (m′ : Memory) (w′ : Watchdog) (verdict′ : List ℕ) : Type 0 where
@@ -50,10 +53,10 @@ pub record TimeCodes (spans aims numbers run last : List ℕ) (w : Watchdog) (by
   pub steps : EventAnswered answer′ λ a.
       (rows : List ℕ) → Steps rows spans aims numbers run last w records (TimeCode byte clock) a run′ last′ w′ records′
 
--- `spwd_c_request`. It is lent no last time-code, no five numbers and no record buffer: it is the step with any of these, and they stay.
-pub record Requests (rows spans aims numbers run : List ℕ) (initiator target kind size : ℕ) (run′ answer′ : List ℕ) : Type 0 where
+-- `spwd_c_request`. It is lent no spans, no last time-code, no five numbers and no record buffer: it is the step with any of these, and they stay.
+pub record Requests (rows aims numbers run : List ℕ) (initiator target kind size : ℕ) (run′ answer′ : List ℕ) : Type 0 where
   pub steps : EventAnswered answer′ λ a.
-      (last : List ℕ) (w : Watchdog) (records : List ℕ) → Steps rows spans aims numbers run last w records (Request initiator target kind size) a run′ last w records
+      (spans last : List ℕ) (w : Watchdog) (records : List ℕ) → Steps rows spans aims numbers run last w records (Request initiator target kind size) a run′ last w records
 
 -- `spwd_c_reply`. The same, and it is not lent the entries either.
 pub record Replies (rows numbers run : List ℕ) (initiator transaction status : ℕ) (run′ answer′ : List ℕ) : Type 0 where
@@ -98,3 +101,9 @@ pub record HoldsIt (file : List ℕ) (r : ℕ) (sets ends rows reach paths spans
 -- box.
 pub record SheetTold (out home rate size : ℕ) (latencies answer′ : List ℕ) : Type 0 where
   pub numbers : answer′ ≡ sheetNumbers (sheetAnswer (paced rate (nth latencies 0) (nth latencies 1) (nth latencies 2) (nth latencies 3)) out home size)
+
+-- `spwd_c_next`: the two numbers of the answer to the question for the next turn. It is lent the rows, the summary and the numbers of a plan.
+pub record NextTold (rows aims numbers : List ℕ) (initiator target size slot : ℕ) (answer′ : List ℕ) : Type 0 where
+  pub answer : Next
+  pub listed-as : answer′ ≡ nextNumbers answer
+  pub tells : TellsNext rows aims numbers initiator target size slot answer

@@ -67,7 +67,6 @@ pub extern "C" fn spwd_c_time_code(
 #[no_mangle]
 pub extern "C" fn spwd_c_request(
     rows: &Rows,
-    spans: &Spans,
     aims: &Aims,
     numbers: &Numbers,
     run: &mut Run,
@@ -77,19 +76,9 @@ pub extern "C" fn spwd_c_request(
     length: u16,
     answer: &mut [u32; 8],
 )
-    ensures { λ _. ⌜ Requests (now (rows .entry)) (now (spans .entry)) (now (aims .entry)) (now (numbers .entry)) (now (run .entry)) initiator target kind length (now (run .exit)) (now (answer .exit)) ⌝ }
+    ensures { λ _. ⌜ Requests (now (rows .entry)) (now (aims .entry)) (now (numbers .entry)) (now (run .entry)) initiator target kind length (now (run .exit)) (now (answer .exit)) ⌝ }
 {
-    *answer = values_of(request(
-        rows,
-        spans,
-        aims,
-        numbers,
-        run,
-        initiator,
-        target,
-        kind,
-        length,
-    ));
+    *answer = values_of(request(rows, aims, numbers, run, initiator, target, kind, length));
 }
 
 #[no_mangle]

@@ -2,6 +2,7 @@
 pub mod ask;
 pub mod call;
 pub mod event;
+pub mod next;
 pub mod out;
 pub mod sheet;
 pub mod version;

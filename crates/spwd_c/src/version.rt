@@ -2,7 +2,7 @@
 ghost use mathlib.Core.Path.{_≡_};
 ghost use Rattle.spwd_c.specs.Exports.{interfaceVersion};
 
-const VERSION: u32 = 4;
+const VERSION: u32 = 5;
 
 #[no_mangle]
 pub extern "C" fn spwd_c_version() -> u32

@@ -57,7 +57,7 @@ fn line_of(file: &[u8], out: &mut [u8; 40]) -> usize
     let mut reach = [0u64; ROWS];
     let mut paths = [0u8; PATH_BYTES];
     let mut spans = [0u8; CELLS];
-    let mut aims = [0u64; CELLS];
+    let mut aims = [0u64; AIMS];
     let mut numbers = [0u32; NUMBERS];
     let verdict = load(
         file,

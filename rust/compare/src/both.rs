@@ -2,6 +2,7 @@
 
 use crate::sheets::Sheet;
 use crate::theirs;
+use crate::turns::{Turn, Turned};
 use reference::Unit;
 use spwd::{Answer, Event, Plan, Record, Refusal, Spwd, Verdict, Watchdog};
 use spwd::{Latencies, SheetOutOfRange};
@@ -24,7 +25,7 @@ pub type Outcome<T> = Result<T, Difference>;
 /// What an event answered, or the number of its refusal.
 pub type Answered = Result<Answer, u8>;
 
-fn same<T: PartialEq + Debug>(what: &'static str, proved: T, reference: T) -> Outcome<T> {
+pub fn same<T: PartialEq + Debug>(what: &'static str, proved: T, reference: T) -> Outcome<T> {
     if proved == reference {
         return Ok(proved);
     }
@@ -50,6 +51,8 @@ pub struct Question<'a> {
     pub room: usize,
     /// Do they hold the plan of this file?
     pub file: &'a [u8],
+    /// The next turn under the plan of that file.
+    pub turn: Turn,
 }
 
 #[derive(Default)]
@@ -119,6 +122,16 @@ impl Both {
         Ok((answer, spwd::records(&records, count).collect()))
     }
 
+    /// Asks both for the next turn, which leaves the box as it was.
+    pub fn next(&mut self, turn: Turn) -> Outcome<Turned> {
+        let before = self.proved.clone();
+        let answer = turn.ask(|i, t, d, slot| self.proved.next(i, t, d, slot));
+        let answer = same_turn(answer, &self.unit, turn)?;
+        let unchanged = self.proved == before;
+        same("box as it was before it was asked", unchanged, true)?;
+        Ok(answer)
+    }
+
     fn same_five(&self) -> Outcome<()> {
         let five: [u32; 5] = self.proved.watchdog().into();
         same("the five numbers", five, theirs::five(&self.watchdog))?;
@@ -137,6 +150,9 @@ impl Both {
         let ours = self.proved.holds(question.file, &mut self.other);
         let holds = same("holds the plan of the file", ours, holds)?;
         same_written(&self.other, &other, WRITTEN_MOST)?;
+        let turn = question.turn;
+        let answer = turn.ask(|i, t, d, slot| self.other.next(i, t, d, slot));
+        same_turn(answer, &other, turn).map(drop)?;
         Ok(After {
             written,
             blank,
@@ -164,6 +180,20 @@ pub fn same_sheet(sheet: &Sheet) -> Outcome<bool> {
         return Ok(same("sheet", answer.map_err(number), theirs)?.is_ok());
     }
     Ok(two_ways.is_ok())
+}
+
+/// The next turn by both, and by the reference's search over all entries.
+fn same_turn(answer: Result<u8, Refusal>, unit: &Unit, turn: Turn) -> Outcome<Turned> {
+    let answer = answer.map_err(Refusal::number);
+    let numbers = match answer {
+        Ok(count) => (0, count),
+        Err(number) => (number, 0),
+    };
+    let theirs = turn.ask(|i, t, d, slot| unit.next(i, t, d, slot));
+    same("next turn", numbers, theirs)?;
+    let searched = turn.ask(|i, t, d, slot| unit.next_by_entries(i, t, d, slot));
+    same("next turn by reading all entries", numbers, searched)?;
+    Ok(answer)
 }
 
 /// The plan written out by both; the number of the answer.

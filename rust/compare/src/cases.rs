@@ -1,15 +1,18 @@
-//! The cases: files, histories, a history so long that transaction numbers run round, times at their bounds, and sheets.
+//! The cases: files, histories, requests followed to their starts, a history so long that transaction numbers run round, times at their
+//! bounds, and sheets.
 
-use crate::both::{same_sheet, Answered, Both, Difference, Outcome, Question};
+use crate::both::{same, same_sheet, Answered, Both, Difference, Outcome, Question};
 use crate::damage::{damaged, noise};
 use crate::decided::Watcher;
 use crate::events::{five, Actor};
 use crate::plans;
 use crate::random::Random;
 use crate::sheets::{self, Sheet};
+use crate::starts::Starts;
 use crate::tally::Tally;
 use crate::times;
-use spwd::{Answer, Event, Record, READ, RECORDS_ROOM, WRITTEN_MOST};
+use crate::turns::{Turn, Turned};
+use spwd::{Answer, Event, Record, Refusal, READ, RECORDS_ROOM, WRITTEN_MOST};
 
 /// A case that showed a difference.
 #[derive(Debug)]
@@ -28,6 +31,7 @@ pub struct Case<'a> {
     tally: &'a mut Tally,
     actor: Actor,
     watcher: Watcher,
+    starts: Starts,
     file: Vec<u8>,
     call: String,
 }
@@ -40,6 +44,7 @@ impl<'a> Case<'a> {
             tally,
             actor: Actor::default(),
             watcher: Watcher::default(),
+            starts: Starts::default(),
             file: Vec::new(),
             call: String::new(),
         }
@@ -54,6 +59,12 @@ impl<'a> Case<'a> {
     /// An accepted plan, and so many events under it with clears and loads in the middle.
     pub fn history(mut self, events: u64) -> Result<(), Box<Failure>> {
         let outcome = self.some_events(events);
+        self.told(outcome)
+    }
+
+    /// An accepted plan, and requests into empty lines, each with time-codes in sequence until it starts.
+    pub fn followed(mut self) -> Result<(), Box<Failure>> {
+        let outcome = self.some_followed();
         self.told(outcome)
     }
 
@@ -112,11 +123,49 @@ impl<'a> Case<'a> {
                 3..6 => self.load_accepted()?,
                 6..20 => self.lend(),
                 20..60 if !self.actor.has_plan() => self.load_accepted()?,
+                60..300 => self.turns()?,
                 _ => {}
             }
             self.step()?;
         }
         Ok(())
+    }
+
+    /// Each request twice: where it has one turn alone, the second one waits for the same slot again.
+    fn some_followed(&mut self) -> Outcome<()> {
+        self.load_accepted()?;
+        self.in_sequence()?;
+        for _ in 0..5 {
+            let request = self.actor.request(false, &mut self.random);
+            self.follow(request)?;
+            self.follow(request)?;
+        }
+        Ok(())
+    }
+
+    /// Others may join this line or another one meanwhile.
+    fn follow(&mut self, request: Event) -> Outcome<()> {
+        self.take(request, 0).map(drop)?;
+        for _ in 0..128 {
+            if !self.starts.waits() {
+                break;
+            }
+            if self.random.chance(50) {
+                let request = self.actor.request(false, &mut self.random);
+                self.take(request, 0).map(drop)?;
+            }
+            self.in_sequence()?;
+        }
+        Ok(())
+    }
+
+    /// A time-code in sequence.
+    fn in_sequence(&mut self) -> Outcome<()> {
+        let last = self.starts.last();
+        let byte = last.map_or(self.random.byte(), |last| last + 1) % 64;
+        let clock = self.random.word();
+        let time_code = Event::TimeCode { byte, clock };
+        self.take(time_code, RECORDS_ROOM).map(drop)
     }
 
     fn all_numbers(&mut self) -> Outcome<()> {
@@ -187,15 +236,18 @@ impl<'a> Case<'a> {
             0 => (Actor::under(&self.file), Watcher::under(&self.file)),
             _ => Default::default(),
         };
-        self.after()
+        self.starts = Starts::default();
+        self.after()?;
+        self.turns()
     }
 
     fn clear(&mut self) -> Outcome<()> {
         self.call = "clear".to_owned();
         self.both.clear()?;
         self.tally.clears += 1;
-        (self.actor, self.watcher) = Default::default();
-        self.after()
+        (self.actor, self.watcher, self.starts) = Default::default();
+        self.after()?;
+        self.turns()
     }
 
     fn lend(&mut self) {
@@ -227,6 +279,80 @@ impl<'a> Case<'a> {
             self.actor.learn(&event, &records);
         }
         self.after()?;
+        self.hold_to_turns(&event, &answer, &records)?;
+        Ok(answer)
+    }
+
+    /// Holds what an event did against the next turn.
+    fn hold_to_turns(
+        &mut self,
+        event: &Event,
+        answer: &Answered,
+        records: &[Record],
+    ) -> Outcome<()> {
+        match *event {
+            Event::Request {
+                initiator,
+                target,
+                length,
+                ..
+            } => {
+                let slot = self.starts.last().unwrap_or(0);
+                let turn = Turn {
+                    initiator,
+                    target,
+                    length,
+                    slot,
+                };
+                self.hold_request(turn, answer)
+            }
+            Event::TimeCode { byte, .. } if answer.is_ok() => {
+                let kept = self.starts.time_code(byte, records)?;
+                kept.into_iter()
+                    .for_each(|count| self.tally.turns.kept(count));
+                Ok(())
+            }
+            _ => Ok(()),
+        }
+    }
+
+    /// A request is refused as its turn is, but for its kind and a full line. One that is taken is followed to its start.
+    fn hold_request(&mut self, turn: Turn, answer: &Answered) -> Outcome<()> {
+        const KIND: u8 = Refusal::UNKNOWN_KIND.number();
+        const LINE: u8 = Refusal::LINE_FULL.number();
+        let refused = match *answer {
+            Err(KIND) => return Ok(()),
+            Ok(_) | Err(LINE) => None,
+            Err(number) => Some(number),
+        };
+        let named = self.turn(turn)?;
+        same("refusal of a request and its turn", refused, named.err())?;
+        if let (&Ok(Answer::Joined(transaction)), Ok(count)) = (answer, named) {
+            self.starts.join(turn.initiator, transaction, count);
+        }
+        Ok(())
+    }
+
+    /// The next turn of a request, from a slot or from all.
+    fn turns(&mut self) -> Outcome<()> {
+        let turn = self.actor.turn(&mut self.random);
+        self.turn(turn).map(drop)?;
+        if self.random.chance(250) {
+            for slot in 0..64 {
+                self.turn(Turn { slot, ..turn }).map(drop)?;
+            }
+        }
+        Ok(())
+    }
+
+    fn turn(&mut self, turn: Turn) -> Outcome<Turned> {
+        let answer = self.both.next(turn);
+        let answer = answer.inspect_err(|_| self.call = format!("{turn:?}"))?;
+        let shown = match answer {
+            Ok(count) => self.actor.entries().shown(turn, count),
+            Err(_) => Vec::new(),
+        };
+        self.tally.turns.turn(turn, answer, &shown);
         Ok(answer)
     }
 
@@ -248,7 +374,8 @@ impl<'a> Case<'a> {
             _ => None,
         };
         let file = other.as_deref().unwrap_or(&self.file);
-        let after = self.both.after(&Question { room, file })?;
+        let turn = self.actor.turn(random);
+        let after = self.both.after(&Question { room, file, turn })?;
         self.tally.after(after);
         Ok(())
     }

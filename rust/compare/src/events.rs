@@ -5,6 +5,7 @@ use crate::permits::{permits, Permit};
 use crate::random::Random;
 use crate::replies;
 use crate::times::Times;
+use crate::turns::{Entries, Turn};
 use spwd::{Event, Record, Watchdog};
 
 #[derive(Default)]
@@ -55,6 +56,53 @@ impl Actor {
         }
     }
 
+    /// What bears on the next turn.
+    pub fn entries(&self) -> Entries<'_> {
+        Entries {
+            permits: &self.permits,
+            times: self.times,
+            has_replies: self.has_replies,
+        }
+    }
+
+    /// The next turn of a request that may be taken or not, from a slot that may be none.
+    pub fn turn(&self, random: &mut Random) -> Turn {
+        let mut turn = self.turn_of_a_permit(random);
+        while random.chance(150) {
+            match random.below(5) {
+                0 => turn.initiator = random.byte(),
+                1 => turn.target = random.byte(),
+                2 => turn.length = random.pick(&[4_095, 4_096, 4_097, u16::MAX]),
+                3 => turn.length = random.word() as u16,
+                _ => turn.slot = random.pick(&[62, 63, 64, 65, u8::MAX]),
+            }
+        }
+        turn
+    }
+
+    /// From a slot near that of an entry, or any.
+    fn turn_of_a_permit(&self, random: &mut Random) -> Turn {
+        let mut turn = Turn {
+            initiator: random.byte() % 64,
+            target: random.byte() % 64,
+            length: random.below(4_098) as u16,
+            slot: match random.below(8) {
+                0 => random.byte(),
+                _ => random.byte() % 64,
+            },
+        };
+        if self.permits.is_empty() {
+            return turn;
+        }
+        let permit = random.pick(&self.permits);
+        (turn.initiator, turn.target) = (permit.initiator, permit.target);
+        turn.length = self.length(&permit, random);
+        if random.chance(400) {
+            turn.slot = (permit.slot + random.pick(&[62, 63, 0, 1, permit.span])) % 64;
+        }
+        turn
+    }
+
     fn time_code(&self, five: Watchdog, strange: bool, random: &mut Random) -> Event {
         let byte = match self.last {
             _ if strange => random.byte(),
@@ -65,7 +113,7 @@ impl Actor {
         Event::TimeCode { byte, clock }
     }
 
-    fn request(&self, strange: bool, random: &mut Random) -> Event {
+    pub fn request(&self, strange: bool, random: &mut Random) -> Event {
         let (mut initiator, mut target, mut length) = match self.permits[..] {
             [] => (random.byte() % 64, random.byte() % 64, 256),
             _ => {

@@ -1,9 +1,9 @@
 //! compare [SEED [FILES [EVENTS]]]: files and histories drawn from the seed, taken by the proved box and by the reference. At least
 //! so many files and events are compared, and then as many time sheets as files. The first difference ends it: what was done, on what
 //! file, both results, and status 1. The same where a verdict, refusal or record kind was not reached, a side of what the times of a plan
-//! or a sheet decide, or a verdict on a reply or a clash by its way, and where a plan drawn to be accepted was refused. The last line is
-//! "N passed, M failed", N the cases without a difference: files, histories, one history in which transaction numbers run round, plans
-//! with times at each bound, and all sheets.
+//! or a sheet decide, a verdict on a reply or a clash by its way, or a refusal or count of the next turn or a start at one, and where a
+//! plan drawn to be accepted was refused. The last line is "N passed, M failed", N the cases without a difference: files, histories,
+//! requests followed to their starts, one history in which transaction numbers run round, plans with times at each bound, and all sheets.
 
 use compare::cases::{Case, Failure};
 use compare::random::Random;
@@ -13,6 +13,8 @@ use std::process::ExitCode;
 const SEED: u64 = 1;
 const FILES: u64 = 20_000;
 const EVENTS: u64 = 200_000;
+/// For so many files the requests under one plan are followed to their starts.
+const FILES_TO_FOLLOW: u64 = 50;
 
 struct Sizes {
     seed: u64,
@@ -64,8 +66,8 @@ fn main() -> ExitCode {
 /// A difference, with the name of its case.
 type Found = (String, Box<Failure>);
 
-/// Files first, then histories, then the round of all numbers, the bounds of times, and sheets. A case has as its number how many passed
-/// before it.
+/// Files first, then histories, requests followed to their starts, the round of all numbers, the bounds of times, and sheets. A case has
+/// as its number how many passed before it.
 fn run(sizes: &Sizes, tally: &mut Tally, passed: &mut u64) -> Result<(), Found> {
     while tally.files < sizes.files {
         let random = Random::of_case(sizes.seed, *passed);
@@ -76,6 +78,11 @@ fn run(sizes: &Sizes, tally: &mut Tally, passed: &mut u64) -> Result<(), Found> 
         let events = 1 + random.below(4000) as u64;
         let ended = Case::new(random, tally).history(events);
         counted("history case", ended, passed)?;
+    }
+    for _ in 0..sizes.files.div_ceil(FILES_TO_FOLLOW) {
+        let random = Random::of_case(sizes.seed, *passed);
+        let ended = Case::new(random, tally).followed();
+        counted("requests followed, case", ended, passed)?;
     }
     let random = Random::of_case(sizes.seed, *passed);
     let ended = Case::new(random, tally).round();

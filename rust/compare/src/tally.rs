@@ -5,6 +5,7 @@ use crate::decided::ByTime;
 use crate::field_tally::{row, RepliesTally, TimesTally, VERDICTS, WHOLE};
 use crate::fields::split;
 use crate::sheets::Sheet;
+use crate::turn_tally::TurnTally;
 use crate::{replies, times};
 use spwd::{Answer, Record};
 use std::fmt;
@@ -26,6 +27,7 @@ pub struct Tally {
     blank: [u64; 2],
     holds: [u64; 2],
     by_time: [u64; ByTime::ALL.len()],
+    pub turns: TurnTally,
     /// Refused, accepted: with the same routers each way, and with others on the reply's.
     sheets: [u64; 2],
     two_way_sheets: [u64; 2],
@@ -132,6 +134,7 @@ impl Tally {
         missing.extend(self.never_without(replies::TAG, &self.replies.tag.verdicts));
         missing.extend(self.times.missing());
         missing.extend(self.replies.missing());
+        missing.extend(self.turns.missing());
         for (what, name) in ByTime::ALL {
             if self.by_time[what as usize] == 0 {
                 missing.push(format!("no request was {name}"));
@@ -173,6 +176,7 @@ impl fmt::Display for Tally {
             "kinds     {} (6 cannot happen with an accepted plan)",
             row(&self.kinds, 1)
         )?;
+        write!(formatter, "{}", self.turns)?;
         writeln!(formatter, "classes   {}", row(&self.classes, 0))?;
         writeln!(formatter, "readings  {}", row(&self.readings, 0))?;
         writeln!(formatter, "blank     {}", row(&self.blank, 0))?;

@@ -1,5 +1,6 @@
 //! The words behind a program's name: options that it knows, some with words of their own, and other words.
 
+use crate::form::number;
 use std::ffi::OsString;
 
 /// What a program was asked for: at most one file.
@@ -26,6 +27,9 @@ pub fn asked(
         },
     })
 }
+
+/// Options that were given, each with its words.
+pub type Options = [(&'static str, Vec<OsString>)];
 
 /// The options of a program, each with its words, and all other words.
 #[derive(Debug, PartialEq, Eq)]
@@ -66,6 +70,24 @@ pub fn given(
         }
     }
     Ok(Given::Words { options, others })
+}
+
+/// The words of an option, if it was given.
+pub fn own<'a>(options: &'a Options, name: &str) -> Result<Option<&'a [OsString]>, String> {
+    let mut given = options.iter().filter(|(option, _)| *option == name);
+    match (given.next(), given.next()) {
+        (_, Some(_)) => Err(format!("{name} stands twice")),
+        (first, None) => Ok(first.map(|(_, words)| &words[..])),
+    }
+}
+
+/// The numbers that so many words are, each with the most that it may be.
+pub fn numbers<const N: usize>(words: &[OsString], most: [u32; N]) -> Result<[u32; N], String> {
+    let mut numbers = most;
+    for (place, word) in numbers.iter_mut().zip(words) {
+        *place = number(&word.to_string_lossy(), *place)?;
+    }
+    Ok(numbers)
 }
 
 /// The only one of these words, if there is one.

@@ -5,9 +5,10 @@ use crate::layout::wrapped;
 use crate::plan::Plan;
 
 const SLOTS: usize = 64;
-const BLOCK: usize = 16;
+/// Slots beside each other.
+pub const BLOCK: usize = 16;
 /// Characters of a slot in a row.
-const CELL: usize = 4;
+pub const CELL: usize = 4;
 
 /// What stands in one slot of a row.
 #[derive(Clone, Copy)]
@@ -73,7 +74,8 @@ fn cells<'a>(plan: &'a Plan<'a>, initiator: u8) -> [Cell<'a>; SLOTS] {
     cells
 }
 
-fn heading(first: usize) -> String {
+/// The slots of a block, from its first on.
+pub fn heading(first: usize) -> String {
     let slots = (first..first + BLOCK).map(|slot| format!("{slot:<CELL$}"));
     let line = format!("  slot  {}", slots.collect::<String>());
     line.trim_end().to_string()

@@ -3,9 +3,10 @@
 use crate::words;
 use spwd::{Counts, Fault, Spwd, Verdict, WRITTEN_MOST};
 
-/// A verdict, and the plan as the box holds it then: nothing if it was refused.
+/// A verdict, the box then, and the plan as it holds it: nothing if it was refused.
 pub struct Judged {
     pub verdict: Verdict,
+    pub desk: Spwd,
     pub held: Vec<u8>,
 }
 
@@ -13,10 +14,20 @@ pub struct Judged {
 pub fn judge(file: &[u8]) -> Judged {
     let mut desk = Spwd::new();
     let verdict = desk.load(file).into();
+    let held = held(&desk);
+    Judged {
+        verdict,
+        desk,
+        held,
+    }
+}
+
+/// The plan that a box holds, as a file; nothing if it holds none.
+pub fn held(desk: &Spwd) -> Vec<u8> {
     let mut held = vec![0; WRITTEN_MOST];
     let size = desk.write_out(&mut held).unwrap_or(0);
     held.truncate(size);
-    Judged { verdict, held }
+    held
 }
 
 /// What follows a verdict's number, in words; nothing where it says nothing.
@@ -65,6 +76,6 @@ pub fn in_words(verdict: &Verdict) -> Vec<String> {
         format!("{}: {}", row.number, row.means),
     ];
     lines.extend(place(verdict).map(|place| format!("    {place}")));
-    lines.push(format!("    to do: {}", row.to_do));
+    lines.push(row.advice());
     lines
 }

@@ -23,5 +23,7 @@ pub mod source;
 pub mod streams;
 pub mod text;
 pub mod times;
+pub mod turns;
+pub mod waiting;
 pub mod ways;
 pub mod words;

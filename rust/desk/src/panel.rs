@@ -2,16 +2,17 @@
 
 use crate::judge;
 use crate::layout::{printable, shortened};
-use crate::plan::Plan;
 use crate::script::{line_of, Command, Line};
 use crate::sheet::Asked;
-use crate::times::over_time;
+use crate::turns::{when, Question, Wanted};
+use crate::waiting::Waiting;
 use crate::words::{self, Row};
-use spwd::{records, Record, Refusal, Spwd, Verdict, Watchdog, WRITTEN_MOST};
+use spwd::{records, Record, Refusal, Spwd, Verdict, Watchdog};
 
 /// A box and the line that its panel shows next.
 pub struct Panel {
     desk: Spwd,
+    waiting: Waiting,
     /// Whether the card's row follows what asks for something.
     card: bool,
     line: u64,
@@ -23,6 +24,7 @@ impl Panel {
     pub fn new(card: bool) -> Self {
         Self {
             desk: Spwd::new(),
+            waiting: Waiting::default(),
             card,
             line: 0,
             wrong: 0,
@@ -81,11 +83,13 @@ impl Panel {
                 vec![five("watchdog set", &self.desk.watchdog())]
             }
             Command::Sheet { asked, length } => vec![time(&asked, length)],
+            Command::Next(question) => self.next(&question),
         }
     }
 
     fn load(&mut self, file: &[u8]) -> Vec<String> {
         let verdict = Verdict::from(self.desk.load(file));
+        self.waiting = Waiting::default();
         let row = words::verdict(verdict.number());
         let place = judge::place(&verdict).map_or(String::new(), |place| format!(" ({place})"));
         let none = if verdict.is_accepted() {
@@ -101,10 +105,11 @@ impl Panel {
     fn time_code(&mut self, byte: u8, clock: u32, room: usize) -> Vec<String> {
         let mut buffer = vec![0; room];
         let count = match self.desk.time_code(byte, clock, &mut buffer) {
-            Err(refusal) => return self.refused(&format!("time-code {byte}"), refusal.number()),
+            Err(refusal) => return self.refused(&format!("time-code {byte}"), refusal),
             Ok(count) => count,
         };
         let slot = byte % 64;
+        self.waiting.time_code(slot, records(&buffer, count));
         if count == 0 {
             return vec![format!("slot {slot}: nothing to report")];
         }
@@ -124,27 +129,45 @@ impl Panel {
 
     fn request(&mut self, initiator: u8, target: u8, kind: u8, length: u16) -> Vec<String> {
         let what = format!("{}, {}", words::request_kind(kind), words::bytes(length));
+        let wanted = Wanted {
+            initiator,
+            target,
+            length,
+        };
         match self.desk.request(initiator, target, kind, length) {
-            Ok(transaction) => vec![format!(
-                "request: initiator {initiator} number {transaction} to target {target}, {what}: waiting"
-            )],
+            Ok(transaction) => {
+                let start = self.start(&wanted).unwrap_or_default();
+                vec![format!(
+                    "request: initiator {initiator} number {transaction} to target {target}, {what}: waiting{start}"
+                )]
+            }
             Err(refusal) => {
                 let what = format!("request: initiator {initiator} to target {target}, {what}");
-                let mut lines = self.refused(&what, refusal.number());
-                if refusal == Refusal::NOT_PERMITTED {
-                    let why = self.over_time(initiator, target, length);
-                    lines.splice(1..1, why.map(|why| format!("    {why}")));
-                }
-                lines
+                self.refused_wanted(&what, refusal, &wanted)
             }
         }
     }
 
-    /// Why no entry permits a request, if that is for the plan's times.
-    fn over_time(&self, initiator: u8, target: u8, length: u16) -> Option<String> {
-        let mut held = vec![0; WRITTEN_MOST];
-        let size = self.desk.write_out(&mut held).ok()?;
-        over_time(&Plan::of(&held[..size]), initiator, target, length)
+    /// Where a request starts that was just accepted; nothing where that is not known.
+    fn start(&mut self, wanted: &Wanted) -> Option<String> {
+        let slot = self.waiting.request(wanted.initiator)?;
+        let when = when(slot, wanted.next(&self.desk, slot).ok()?);
+        Some(format!(
+            "; starts {when}, if all time-codes are in sequence"
+        ))
+    }
+
+    fn next(&self, question: &Question) -> Vec<String> {
+        match question.answer(&self.desk) {
+            Ok(lines) => lines,
+            Err(refusal) => self.refused_wanted(&question.to_string(), refusal, &question.wanted),
+        }
+    }
+
+    fn refused_wanted(&self, what: &str, refusal: Refusal, wanted: &Wanted) -> Vec<String> {
+        let mut lines = wanted.refused(what, refusal, &self.desk);
+        lines.extend(self.to_do(&words::refusal(refusal.number())));
+        lines
     }
 
     fn reply(&mut self, initiator: u8, transaction: u16, status: u8) -> Vec<String> {
@@ -158,7 +181,7 @@ impl Panel {
             }
             Err(refusal) => self.refused(
                 &format!("reply: initiator {initiator} number {transaction}"),
-                refusal.number(),
+                refusal,
             ),
         }
     }
@@ -167,27 +190,26 @@ impl Panel {
         match self.desk.reading(clock) {
             Ok(true) => vec![format!("clock {clock}: the next time-code is late")],
             Ok(false) => vec![format!("clock {clock}: nothing to report")],
-            Err(refusal) => self.refused(&format!("clock {clock}"), refusal.number()),
+            Err(refusal) => self.refused(&format!("clock {clock}"), refusal),
         }
     }
 
     fn write_out(&mut self, room: usize) -> Vec<String> {
         match self.desk.write_out(&mut vec![0; room]) {
             Ok(size) => vec![format!("the plan written out: {size} bytes")],
-            Err(refusal) => self.refused("writing out", refusal.number()),
+            Err(refusal) => self.refused("writing out", refusal),
         }
     }
 
-    fn refused(&self, what: &str, number: u8) -> Vec<String> {
-        let row = words::refusal(number);
-        let mut lines = vec![format!("{what}: refused {number}: {}", row.means)];
-        lines.extend(self.to_do(&row));
+    fn refused(&self, what: &str, refusal: Refusal) -> Vec<String> {
+        let mut lines = vec![words::refused(what, refusal)];
+        lines.extend(self.to_do(&words::refusal(refusal.number())));
         lines
     }
 
     /// What to do, if the card was asked for.
     fn to_do(&self, row: &Row) -> Option<String> {
-        self.card.then(|| format!("    to do: {}", row.to_do))
+        self.card.then(|| row.advice())
     }
 
     /// What a record's kind says, if the card was asked for.

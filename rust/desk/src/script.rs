@@ -1,6 +1,7 @@
 //! A line of the script that `replay` reads, as a command: words separated by one space, decimal numbers, bytes in lowercase hex.
 
 use crate::sheet::Asked;
+use crate::turns::{Question, Wanted};
 use crate::ways::Routers;
 use spwd::Latencies;
 
@@ -37,6 +38,8 @@ pub enum Command {
         asked: Asked,
         length: u16,
     },
+    /// After one slot.
+    Next(Question),
 }
 
 #[derive(Debug, PartialEq, Eq)]
@@ -102,6 +105,14 @@ fn command_of(line: &[u8]) -> Option<Command> {
             let (command, reply) = (byte(command)?, byte(reply)?);
             sheet(Routers { command, reply }, rest)
         }
+        (b"next", [initiator, target, length, slot]) => Some(Command::Next(Question {
+            wanted: Wanted {
+                initiator: byte(initiator)?,
+                target: byte(target)?,
+                length: short(length)?,
+            },
+            slot: Some(byte(slot)?),
+        })),
         _ => None,
     }
 }

@@ -12,7 +12,7 @@ pub enum Status {
     Done = 0,
     /// Lines that are no item or no command.
     Complaints = 1,
-    /// The box refuses the plan.
+    /// The box refuses the plan, or what is asked of it.
     Refused = 2,
     /// Wrong words behind the program's name, a file that cannot be read, output that cannot be written.
     Failed = 3,

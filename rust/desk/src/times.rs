@@ -2,6 +2,7 @@
 
 use crate::fields::{Entry, Path, Times};
 use crate::plan::Plan;
+use crate::turns::Wanted;
 use crate::ways::Routers;
 use crate::words;
 use spwd::{sheet2, LENGTH_MOST};
@@ -129,7 +130,12 @@ pub fn longest<'a>(plan: &Plan<'a>, times: &Times) -> Option<Longest<'a>> {
 }
 
 /// Why no entry permits a request, where it is for the plan's times: some entry has the target.
-pub fn over_time(plan: &Plan, initiator: u8, target: u8, length: u16) -> Option<String> {
+pub fn over_time(plan: &Plan, wanted: &Wanted) -> Option<String> {
+    let Wanted {
+        initiator,
+        target,
+        length,
+    } = *wanted;
     let times = plan.times?;
     let path = plan.path(initiator, target)?;
     let span = times.time_of(*spans(plan, &path).last()?);

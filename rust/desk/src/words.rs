@@ -2,16 +2,23 @@
 //! them against the card.
 
 use crate::ways::Routers;
-use spwd::{Record, ERROR, READ, SUCCESS, WRITE};
+use spwd::{Record, Refusal, ERROR, READ, SUCCESS, WRITE};
 
 /// A row of the card: what a number means and what to do about it.
 #[derive(Clone, Copy, Debug, PartialEq, Eq)]
 pub struct Row {
     pub number: u8,
-    /// Of a verdict what follows its number, of a refusal the events that get it; nothing of a record.
+    /// Of a verdict what follows its number, of a refusal the events and questions that get it; nothing of a record.
     pub about: &'static str,
     pub means: &'static str,
     pub to_do: &'static str,
+}
+
+impl Row {
+    /// What to do, as it stands below what it is about.
+    pub fn advice(&self) -> String {
+        format!("    to do: {}", self.to_do)
+    }
 }
 
 const fn row(number: u8, about: &'static str, means: &'static str, to_do: &'static str) -> Row {
@@ -122,10 +129,10 @@ pub const VERDICTS: [Row; 16] = [
     ),
 ];
 
-pub const REFUSALS: [Row; 11] = [
+pub const REFUSALS: [Row; 12] = [
     row(
         20,
-        "all events, writing out",
+        "all events, next turn, writing out",
         "there is no plan in the box",
         "load one",
     ),
@@ -137,7 +144,7 @@ pub const REFUSALS: [Row; 11] = [
     ),
     row(
         22,
-        "request, reply",
+        "request, reply, next turn",
         "this number is no initiator of the plan",
         "an initiator stands first in some path of the plan",
     ),
@@ -149,13 +156,13 @@ pub const REFUSALS: [Row; 11] = [
     ),
     row(
         24,
-        "request",
+        "request, next turn",
         "more than 4,096 data bytes",
         "split the request",
     ),
     row(
         25,
-        "request",
+        "request, next turn",
         "no entry of this initiator permits this target with this length",
         "256 bytes for each slot of the span, or with slot times what the plan's sheet says: shorter, or another plan",
     ),
@@ -188,6 +195,12 @@ pub const REFUSALS: [Row; 11] = [
         "writing out",
         "the room is smaller than the plan",
         "16,384 bytes are always enough",
+    ),
+    row(
+        33,
+        "next turn",
+        "there is no such slot",
+        "slots are 0 to 63",
     ),
 ];
 
@@ -261,6 +274,12 @@ pub fn refusal(number: u8) -> Row {
 
 pub fn record(kind: u8) -> Row {
     find(&RECORDS, kind)
+}
+
+/// What was refused, with the number and the words for it.
+pub fn refused(what: &str, refused: Refusal) -> String {
+    let row = refusal(refused.number());
+    format!("{what}: {refused}: {}", row.means)
 }
 
 /// What a panel says of a record.

@@ -38,10 +38,8 @@ fn verdicts() {
 #[test]
 fn refusals() {
     assert_eq!(four(&REFUSALS), table("Refusals"));
-    assert_eq!(
-        REFUSALS.map(|row| row.number),
-        std::array::from_fn(|index| 20 + index as u8)
-    );
+    let numbers: Vec<_> = (20..=30).chain([33]).collect();
+    assert_eq!(REFUSALS.map(|row| row.number)[..], numbers);
 }
 
 #[test]

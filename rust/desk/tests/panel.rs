@@ -2,11 +2,14 @@
 
 mod common;
 
-use common::{expected, root, run, PANEL};
+use common::{bytes, expected, root, run, Chance, PANEL};
+use desk::panel::Panel;
 use desk::script::{line_of, Command, Line};
 use desk::sheet::Asked;
+use desk::turns::{Question, Wanted};
 use desk::ways::Routers;
 use spwd::Latencies;
+use std::collections::HashMap;
 use std::fs;
 use std::io::{BufRead, BufReader, Write};
 use std::process::{Command as Process, Stdio};
@@ -40,6 +43,12 @@ fn slot_times() {
 #[test]
 fn replies() {
     plays(&[], "replies.txt", "panel/replies.txt", 0);
+}
+
+/// Next turns, and where a request starts: said where it stands alone in its line and the slot is known, and else not.
+#[test]
+fn turns() {
+    plays(&[], "turns.txt", "panel/turns.txt", 0);
 }
 
 #[test]
@@ -163,6 +172,7 @@ fn ranges() {
                 4_294_967_295,
             ],
         ),
+        ("next", &[255, 255, 65_535, 255]),
     ] {
         let line = |numbers: &[u64]| {
             let words: Vec<_> = numbers.iter().map(u64::to_string).collect();
@@ -239,7 +249,89 @@ fn numbers_in_their_places() {
         reply: 9,
     };
     assert_eq!(command("sheet2 8 9 2 3 4 5 6 7"), asked(two));
+    let wanted = Wanted {
+        initiator: 1,
+        target: 2,
+        length: 3,
+    };
+    let slot = Some(4);
+    let question = Question { wanted, slot };
+    assert_eq!(command("next 1 2 3 4"), Command::Next(question));
     assert_eq!(command("load 0fa0"), Command::Load(vec![0x0f, 0xa0]));
     assert_eq!(command("wd"), Command::Watchdog);
     assert_eq!(command("clear"), Command::Clear);
+}
+
+/// The number behind a word of a line.
+fn behind(line: &str, word: &str) -> u16 {
+    let (_, rest) = line.split_once(&format!("{word} ")).unwrap();
+    let end = rest.find(|letter: char| !letter.is_ascii_digit());
+    rest[..end.unwrap_or(rest.len())].parse().unwrap()
+}
+
+/// The initiator and the number of a transaction in a line.
+fn which(line: &str) -> (u16, u16) {
+    (behind(line, "initiator"), behind(line, "number"))
+}
+
+/// A script by chance under a plan: requests up to these lengths, one in so many slots, and time-codes in sequence but for one in 200. Every
+/// start that was said comes in that slot and after so many time-codes, unless one was out of sequence before. Gives how many came.
+fn starts_as_said(plan: &str, requests: &[(u8, u8, u16)], one_in: usize) -> usize {
+    let mut chance = Chance(0x5eed_0401);
+    let mut panel = Panel::new(false);
+    let hex = bytes(plan)
+        .iter()
+        .map(|byte| format!("{byte:02x}"))
+        .collect::<String>();
+    panel.play(format!("load {hex}").as_bytes());
+    // The slot, and in how many time-codes.
+    let mut said: HashMap<(u16, u16), (u16, u16)> = HashMap::new();
+    let (mut slot, mut came) = (0, 0);
+    for _ in 0..10_000 {
+        while chance.below(one_in) == 0 {
+            let (initiator, target, most) = requests[chance.below(requests.len())];
+            let length = chance.below(usize::from(most) + 1);
+            let request = format!("req {initiator} {target} 0 {length}");
+            let line = panel.play(request.as_bytes()).remove(0);
+            if let Some((request, start)) = line.split_once("; starts ") {
+                said.insert(which(request), (behind(start, "slot"), behind(start, ",")));
+            }
+        }
+        let skips = chance.below(200) == 0;
+        if skips {
+            said.clear();
+        }
+        slot = (slot + 1 + u8::from(skips)) % 64;
+        said.values_mut().for_each(|start| start.1 -= 1);
+        let lines = panel.play(format!("tc {slot} 0 136").as_bytes());
+        for line in lines.iter().filter(|line| line.contains(" starts ")) {
+            if let Some(start) = said.remove(&which(line)) {
+                assert_eq!(start, (slot.into(), 0), "{plan}: {line}");
+                came += 1;
+            }
+        }
+        assert!(said.values().all(|start| start.1 > 0), "{plan}: {said:?}");
+    }
+    came
+}
+
+#[test]
+fn starts_where_it_says() {
+    let guide = [(1, 20, 256), (1, 21, 768), (2, 20, 768)];
+    let timed = [(1, 20, 265), (1, 21, 1_705), (2, 20, 1_692)];
+    let eight = [
+        (0, 10, 256),
+        (1, 11, 512),
+        (3, 13, 4_096),
+        (6, 14, 1_024),
+        (7, 31, 9),
+    ];
+    for (plan, requests, one_in) in [
+        ("plans/guide.plan", &guide[..], 40),
+        ("plans/guide-reply.plan", &timed, 40),
+        ("plans/eight.plan", &eight, 4),
+    ] {
+        let came = starts_as_said(plan, requests, one_in);
+        assert!(came > 100, "{plan}: {came}");
+    }
 }

@@ -83,6 +83,64 @@ fn words_that_do_not_go_together() {
         &["--text", "--bytes"],
         "spwd-show: --text and --bytes exclude each other; see spwd-show --help\n",
     );
+    let next = ["--next", "1", "20", "40"];
+    for (words, said) in [
+        (&[&next[..], &next][..], "--next stands twice"),
+        (
+            &[&next[..3]],
+            "behind --next stand 2 words and should stand 3",
+        ),
+        (
+            &[&next[..3], &["plans/guide.plan"]],
+            "'plans/guide.plan' is no number; right is a number in decimal digits, 0 to 65535",
+        ),
+        (
+            &[&["--next", "256", "20", "40"]],
+            "256 is too great; right is a number from 0 to 255",
+        ),
+        (
+            &[&["--next", "1", "-1", "40"]],
+            "'-1' is no number; right is a number in decimal digits, 0 to 255",
+        ),
+        (
+            &[&["--next", "1", "20", "65536"]],
+            "65536 is too great; right is a number from 0 to 65535",
+        ),
+        (
+            &[&next, &["256", "plans/guide.plan"]],
+            "256 is too great; right is a number from 0 to 255",
+        ),
+        (
+            &[&["plans/guide.plan"], &next, &["5x"]],
+            "one file at a time, and neither plans/guide.plan nor 5x is a slot in decimal digits",
+        ),
+        (&[&next, &["-1"]], "there is no option -1"),
+        (
+            &[&next, &["5", "a", "b"]],
+            "one file at a time, and b is one more",
+        ),
+        (
+            &[&next, &["a", "b", "c"]],
+            "one file at a time, and b is one more",
+        ),
+        (
+            &[&next, &["--text", "--bytes"]],
+            "--text and --bytes exclude each other",
+        ),
+    ] {
+        let said = format!("spwd-show: {said}; see spwd-show --help\n");
+        refused(SHOW, &words.concat(), &said);
+    }
+    refused(
+        SHOW,
+        &[&next[..], &["5", "no-such-file"]].concat(),
+        "spwd-show: no-such-file: No such file or directory (os error 2)\n",
+    );
+    refused(
+        SHOW,
+        &[&next[..], &[""]].concat(),
+        "spwd-show: : No such file or directory (os error 2)\n",
+    );
     let alone = ["--routers", "1", "--rate", "200"];
     let reply = ["--reply-routers", "2"];
     let latencies = ["--latencies", "0", "0", "0", "0"];
@@ -185,6 +243,7 @@ fn a_closed_pipe() {
         (COMPILE, &["--text", "-"][..], vec![7; 1 << 20]),
         (COMPILE, &["plans/sample-first.plan"], Vec::new()),
         (SHOW, &["--text"], plan.clone()),
+        (SHOW, &["--text", "--next", "1", "5", "0"], plan.clone()),
         (
             SHEET,
             &["--text", "--times", "200", "0", "0", "0", "0", "0"],

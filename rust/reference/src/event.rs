@@ -36,6 +36,7 @@ pub enum Refusal {
     OtherNumber = 28,
     SmallBuffer = 29,
     SmallRoom = 30,
+    Slot = 33,
 }
 
 #[derive(Clone, Copy, Debug, PartialEq, Eq)]

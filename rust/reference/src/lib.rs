@@ -7,6 +7,7 @@ mod bits;
 mod event;
 mod few;
 mod load;
+mod next;
 mod plan;
 mod run;
 mod sheet;
@@ -74,6 +75,29 @@ impl Unit {
                 write_out::write_out(&self.plan, out);
                 (0, size)
             }
+        }
+    }
+
+    /// Answers 0 and how many slots after the given one this initiator may next start such a request:
+    /// 1 is the slot after it, 64 that slot again. Or a refusal's number and 0.
+    #[inline]
+    pub fn next(&self, initiator: u8, target: u8, length: u16, slot: u8) -> (u8, u8) {
+        self.counted(|plan| plan.next(initiator, target, length, slot))
+    }
+
+    /// The same by a plain search over all entries, which the summary must not differ from.
+    pub fn next_by_entries(&self, initiator: u8, target: u8, length: u16, slot: u8) -> (u8, u8) {
+        self.counted(|plan| plan.next_by_entries(initiator, target, length, slot))
+    }
+
+    #[inline(always)]
+    fn counted(&self, next: impl FnOnce(&Plan) -> Result<u8, Refusal>) -> (u8, u8) {
+        if !self.plan.loaded {
+            return (Refusal::NoPlan as u8, 0);
+        }
+        match next(&self.plan) {
+            Ok(count) => (0, count),
+            Err(refusal) => (refusal as u8, 0),
         }
     }
 

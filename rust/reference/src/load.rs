@@ -347,6 +347,7 @@ impl Judge<'_> {
         self.permitted[row][usize::from(span - 1) % SPANS] |= targets.set;
         self.followed[row] |= followed(slot, span);
         self.cover(slot, span, targets.links);
+        self.plan.add_turn(row, slot, span, targets.listed);
     }
 
     /// An entry of this span, standing here, uses these links.
@@ -482,6 +483,7 @@ impl Judge<'_> {
     fn accept(&mut self, file: &[u8]) -> Verdict {
         let plan = &mut *self.plan;
         for row in 0..INITIATORS.min(plan.initiator_count.into()) {
+            plan.complete_turns(row);
             // The longest span of a target comes last and stays.
             for (span, &targets) in (1..).zip(&self.permitted[row]) {
                 Members(targets).for_each(|target| plan.permit(row, target, span));
@@ -560,7 +562,8 @@ impl Trace {
 }
 
 /// The targets of an entry, whatever they are.
-struct Targets {
+struct Targets<'a> {
+    listed: &'a [u8],
     count: u8,
     /// All target numbers, joined bit by bit.
     numbers: u8,
@@ -569,16 +572,17 @@ struct Targets {
     links: u64,
 }
 
-impl Targets {
+impl<'a> Targets<'a> {
     #[inline(always)]
-    fn new(targets: &[u8], path_links: &[u64; NUMBERS]) -> Self {
+    fn new(listed: &'a [u8], path_links: &[u64; NUMBERS]) -> Self {
         let mut all = Self {
-            count: targets.len() as u8,
+            listed,
+            count: listed.len() as u8,
             numbers: 0,
             set: 0,
             links: 0,
         };
-        few::each(targets, |target| {
+        few::each(listed, |target| {
             all.numbers |= target;
             all.set |= bit(target);
             all.links |= path_links[usize::from(target % 64)];

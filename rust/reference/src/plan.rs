@@ -1,6 +1,7 @@
 //! The plan's tables. An initiator has a row in them; rows rise with the device number.
 
 use crate::bits::{bit, Members};
+use crate::event::Refusal;
 use crate::sheet::{Latencies, Sheet, BYTE, LENGTH, ROUTERS};
 
 pub(crate) const INITIATORS: usize = 8;
@@ -8,7 +9,7 @@ pub(crate) const NUMBERS: usize = 64;
 pub(crate) const SLOTS: usize = 64;
 pub(crate) const SPANS: usize = 16;
 /// Data bytes that one slot carries where the plan has no times.
-const SLOT_BYTES: u16 = 256;
+pub(crate) const SLOT_BYTES: u16 = 256;
 
 /// Every number is 0 before any load.
 #[derive(Clone, Debug, PartialEq, Eq)]
@@ -42,13 +43,18 @@ pub(crate) struct Plan {
     pub targets: [[u64; INITIATORS]; SLOTS],
     /// And its span with the number of its targets.
     pub shapes: [[Shape; INITIATORS]; SLOTS],
-    /// The spans, as n - 1, of all entries.
-    pub spans: u64,
+    /// For each row the spans, as n - 1, of its entries.
+    pub spans: [u64; INITIATORS],
     /// For each span, at n - 1, and routers of both ways, if an entry has a target so far away, how
     /// many lengths fit, from 0 up.
     pub lengths: [Lengths; SPANS],
     /// For each row and target what a request reads.
     pub ways: [[Way; NUMBERS]; INITIATORS],
+    /// For each row and target the slots at which an entry with that target stands.
+    pub turns: [[u64; NUMBERS]; INITIATORS],
+    /// For each row and span, at n - 1, the slots at which an entry of that span or a longer one
+    /// stands; while entries are read, of that span alone.
+    pub long_enough: [[u64; SPANS]; INITIATORS],
 }
 
 /// How many lengths fit, by the routers of both ways.
@@ -78,9 +84,11 @@ impl Plan {
             slots: [0; INITIATORS],
             targets: [[0; INITIATORS]; SLOTS],
             shapes: [[Shape::NONE; INITIATORS]; SLOTS],
-            spans: 0,
+            spans: [0; INITIATORS],
             lengths: [NO_LENGTHS; SPANS],
             ways: [[Way::NONE; NUMBERS]; INITIATORS],
+            turns: [[0; NUMBERS]; INITIATORS],
+            long_enough: [[0; SPANS]; INITIATORS],
         }
     }
 
@@ -109,7 +117,10 @@ impl Plan {
             spans,
             lengths,
             ways,
+            turns,
+            long_enough,
         } = self;
+        let rows = INITIATORS.min((*initiator_count).into());
         *loaded = false;
         *size = 0;
         *least = 0;
@@ -129,13 +140,19 @@ impl Plan {
             *replied = [0; INITIATORS];
             *replies = [[Walk(0); NUMBERS]; INITIATORS];
         }
-        *slots = [0; INITIATORS];
-        *targets = [[0; INITIATORS]; SLOTS];
-        *shapes = [[Shape::NONE; INITIATORS]; SLOTS];
-        // The lengths of a span without entries are all 0.
-        Members(*spans).for_each(|span| lengths[usize::from(span) % SPANS] = NO_LENGTHS);
-        *spans = 0;
+        // The summary of a plan without entries, and of a row without an initiator, is all 0.
+        if *slots != [0; INITIATORS] {
+            *slots = [0; INITIATORS];
+            turns[..rows].as_flattened_mut().fill(0);
+            long_enough[..rows].as_flattened_mut().fill(0);
+        }
+        targets.as_flattened_mut().fill(0);
+        shapes.as_flattened_mut().fill(Shape::NONE);
         *ways = [[Way::NONE; NUMBERS]; INITIATORS];
+        // The lengths of a span without entries are all 0.
+        let all_spans = spans.iter().fold(0, |all, spans| all | spans);
+        Members(all_spans).for_each(|span| lengths[usize::from(span) % SPANS] = NO_LENGTHS);
+        *spans = [0; INITIATORS];
     }
 
     #[inline(always)]
@@ -153,10 +170,10 @@ impl Plan {
         }
     }
 
-    /// Notes for requests and starts that this row has an entry with this target and span. The spans
-    /// of a row rise from call to call.
+    /// Notes for requests, starts and turns that this row has an entry with this target and span. The
+    /// spans of a row rise from call to call.
     pub fn permit(&mut self, row: usize, target: u8, span: u8) {
-        self.spans |= bit(span - 1);
+        self.spans[row] |= bit(span - 1);
         let way = &mut self.ways[row][usize::from(target % 64)];
         let routers = way.routers();
         let lengths = &mut self.lengths[usize::from(span - 1) % SPANS][routers.index()];
@@ -175,11 +192,19 @@ impl Plan {
         &self.lengths[usize::from(span.wrapping_sub(1)) % SPANS]
     }
 
-    /// What a request of this row to the target reads; nothing fits a number that is no target.
+    /// What a request of this row to the target reads, if an entry permits that length. A number that
+    /// is no target has a way that no length fits.
     #[inline(always)]
-    pub fn way(&self, row: usize, target: u8) -> Way {
+    pub fn way(&self, row: usize, target: u8, length: u16) -> Result<Way, Refusal> {
+        if length > LENGTH {
+            return Err(Refusal::Length);
+        }
         let way = self.ways[row].get(usize::from(target));
-        way.copied().unwrap_or(Way::NONE)
+        let way = way.copied().unwrap_or(Way::NONE);
+        if length >= way.lengths() {
+            return Err(Refusal::NotPermitted);
+        }
+        Ok(way)
     }
 }
 

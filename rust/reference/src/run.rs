@@ -3,7 +3,6 @@
 use crate::bits::{bit, rows};
 use crate::event::{class, Answer, Refusal};
 use crate::plan::{Lengths, Plan, Routers, Shape, INITIATORS};
-use crate::sheet::LENGTH;
 
 pub(crate) const EARLY: u8 = 1;
 pub(crate) const LATE: u8 = 2;
@@ -219,13 +218,7 @@ impl Run {
         if kind > 1 {
             return Err(Refusal::Kind);
         }
-        if length > LENGTH {
-            return Err(Refusal::Length);
-        }
-        let way = plan.way(row, target);
-        if length >= way.lengths() {
-            return Err(Refusal::NotPermitted);
-        }
+        let way = plan.way(row, target, length)?;
         let number = self.lines[row]
             .join(initiator, target, way.routers(), length)
             .ok_or(Refusal::LineFull)?;

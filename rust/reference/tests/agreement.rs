@@ -37,6 +37,7 @@ fn box_and_model_agree() {
         }
         let events = if number == 0 { 300 } else { 3 };
         for _ in 0..events {
+            seen.turns.insert(turn(&driver, &model, &mut random));
             seen.by_time += u64::from(step(&mut driver, &mut model, &mut random));
         }
     }
@@ -55,6 +56,8 @@ struct Seen {
     accepted: [u64; 2],
     /// Requests refused for their time.
     by_time: u64,
+    /// Refusals of the next turn, and 0.
+    turns: BTreeSet<u8>,
 }
 
 impl Seen {
@@ -85,6 +88,7 @@ impl Seen {
         assert!(self.by_reply > 0, "no reply made a clash");
         let [plain, timed] = self.accepted;
         assert!(plain > 0 && timed > 0, "no plan with replies was accepted");
+        assert_eq!(self.turns, BTreeSet::from([0, 20, 22, 24, 25, 33]));
     }
 }
 
@@ -110,6 +114,28 @@ fn check_written_out(driver: &Driver, model: &Model) {
     let out = driver.written_out();
     assert_eq!(out, model.plan().unwrap().written_out());
     assert_eq!(Driver::new(&out).unit, driver.unit);
+}
+
+/// Asks both for the next turn of such a request as they are handed, and gives the answer's number.
+fn turn(driver: &Driver, model: &Model, random: &mut Random) -> u8 {
+    let strange = random.chance(10);
+    let Event::Request {
+        initiator,
+        target,
+        length,
+        ..
+    } = request(model, strange, random)
+    else {
+        return 0;
+    };
+    let slot = match random.below(10) {
+        0 => random.next() as u8,
+        _ => random.below(64) as u8,
+    };
+    let answer = driver.next(initiator, target, length, slot);
+    let expected = model.next(initiator, target, length, slot);
+    assert_eq!(answer, expected, "{initiator} {target} {length} {slot}");
+    answer.0
 }
 
 /// Hands both an event, and says whether it was a request that is refused for its time alone.

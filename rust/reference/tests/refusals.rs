@@ -74,6 +74,7 @@ fn refusal_20_no_plan() {
             driver.refuses(event, 0, Refusal::NoPlan);
             driver.refuses(event, 136, Refusal::NoPlan);
         }
+        assert_eq!(driver.next(200, 200, 65_535, 255), (20, 0));
         driver.watchdog.seen = 1;
         driver.refuses(Event::Reading { clock: 9 }, 0, Refusal::NoPlan);
         assert_eq!(driver.unit.write_out(&mut []), (20, 0));

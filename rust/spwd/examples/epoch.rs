@@ -113,10 +113,13 @@ fn after_the_last(value: u8) -> u32 {
     }
 }
 
-/// What happens between the time-code of this value and the next. The reading after 39 reports that 40 is late, so 40 does not.
+/// What happens between the time-code of this value and the next. What is asked for after 62 starts at the second time-code, as the count
+/// of its next turn says. The reading after 39 reports that 40 is late, so 40 does not.
 fn between(spwd: &mut Spwd, value: u8, clock: u32) {
     match value {
         62 => {
+            next(spwd, 1, 3, 100, value);
+            next(spwd, 1, 3, 100, SLOTS);
             request(spwd, 1, 3, READ, 100);
             request(spwd, 1, 3, WRITE, 256);
             request(spwd, 1, 3, READ, 257);
@@ -124,6 +127,7 @@ fn between(spwd: &mut Spwd, value: u8, clock: u32) {
             request(spwd, 2, 4, WRITE, 0);
         }
         0 => {
+            next(spwd, 1, 3, 256, value);
             reply(spwd, 1, 7, 0);
             reply(spwd, 1, 0, 0);
             reply(spwd, 1, 0, 0);
@@ -179,6 +183,15 @@ fn request(spwd: &mut Spwd, initiator: u8, target: u8, kind: u8, length: u16) {
     print!("request {initiator} to {target}, {word}, {length} bytes: ");
     match spwd.request(initiator, target, kind, length) {
         Ok(transaction) => println!("number {transaction}"),
+        Err(refusal) => println!("{refusal}"),
+    }
+}
+
+/// When such a request may start, counted from a slot.
+fn next(spwd: &Spwd, initiator: u8, target: u8, length: u16, slot: u8) {
+    print!("next turn of {initiator} to {target}, {length} bytes, from slot {slot}: ");
+    match spwd.next(initiator, target, length, slot) {
+        Ok(count) => println!("count {count}"),
         Err(refusal) => println!("{refusal}"),
     }
 }

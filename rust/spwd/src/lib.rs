@@ -1,12 +1,12 @@
 //! The SpaceWire-D initiator box in safe Rust.
 //!
 //! One box is one [`Spwd`], with all its memory inside: no heap, no statics. It reads a plan file and judges it, takes time-codes,
-//! requests, replies and clock readings, writes records and the plan, and can be cleared. What decides is the proved library
-//! (`crates/spwd_c`, linked as `libspwd_c.a`); here its numbers get names and types, and nothing else happens.
+//! requests, replies and clock readings, writes records and the plan, says when the next turn is, and can be cleared. What decides is
+//! the proved library (`crates/spwd_c`, linked as `libspwd_c.a`); here its numbers get names and types, and nothing else happens.
 //!
 //! Numbers are those of document 01; `docs/CARD.md` says of each what it means and what to do. Whatever can be refused answers a
-//! [`Result`]: a load the [`Counts`] of the plan or the [`Fault`] of the file, events and writing out what they have to say or a
-//! [`Refusal`], and [`sheet()`] and [`sheet2()`], which ask no box, the time of a transaction or that a number is out of range.
+//! [`Result`]: a load the [`Counts`] of the plan or the [`Fault`] of the file, events, the next turn and writing out what they have to say
+//! or a [`Refusal`], and [`sheet()`] and [`sheet2()`], which ask no box, the time of a transaction or that a number is out of range.
 //!
 //! ```
 //! use spwd::{records, Counts, Record, Spwd, READ, RECORDS_ROOM};
@@ -49,7 +49,7 @@ pub use verdict::{Counts, Fault, Line, Verdict};
 pub use watchdog::Watchdog;
 
 /// The version of the interface that this crate is written for; `SPWD_VERSION` of `c/spwd.h`.
-pub const VERSION: u32 = 4;
+pub const VERSION: u32 = 5;
 
 /// Bytes of the longest plan file that is not refused for its length alone.
 pub const FILE_MOST: usize = 16_384;

@@ -15,7 +15,8 @@ pub struct Plan {
     /// 128 rows of 11 bytes for the paths, and as many for the replies.
     pub(crate) paths: [u8; 2816],
     pub(crate) spans: [u8; 512],
-    pub(crate) aims: [u64; 512],
+    /// 512 words for the targets of the entries; 512 and 128 for where turns are, slots by target and by span.
+    pub(crate) aims: [u64; 1152],
     pub(crate) numbers: [u32; 524],
 }
 
@@ -29,9 +30,22 @@ impl Plan {
             reach: [0; 8],
             paths: [0; 2816],
             spans: [0; 512],
-            aims: [0; 512],
+            aims: [0; 1152],
             numbers: [0; 524],
         }
+    }
+
+    /// How many slots after this one the next turn is: the next slot at which an entry of the initiator stands that permits the target with
+    /// this length. 1 is the slot after it, [`SLOTS`](crate::SLOTS) that slot again.
+    ///
+    /// # Errors
+    /// [`Refusal::NO_PLAN`], [`Refusal::NO_INITIATOR`], [`Refusal::LENGTH_OVER_MOST`], [`Refusal::NOT_PERMITTED`],
+    /// [`Refusal::SLOT_OVER_MOST`].
+    #[inline]
+    pub fn next(&self, initiator: u8, target: u8, length: u16, slot: u8) -> Result<u8, Refusal> {
+        let [number, count] = raw::next(self, initiator, target, length, slot);
+        taken(number)?;
+        Ok(count as u8)
     }
 
     /// Writes the plan out as a file, in canonical order, and gives its size, at most [`WRITTEN_MOST`](crate::WRITTEN_MOST).

@@ -15,7 +15,7 @@ type Rows = [u8; 8];
 type Reach = [u64; 8];
 type Paths = [u8; 2816];
 type Spans = [u8; 512];
-type Aims = [u64; 512];
+type Aims = [u64; 1152];
 type Numbers = [u32; 524];
 
 /// Rows of the initiators: numbers, lines and live transactions.
@@ -72,7 +72,6 @@ extern "C" {
     );
     fn spwd_c_request(
         rows: &Rows,
-        spans: &Spans,
         aims: &Aims,
         numbers: &Numbers,
         run: &mut Run,
@@ -92,6 +91,16 @@ extern "C" {
         answer: &mut Answer,
     );
     fn spwd_c_reading(numbers: &Numbers, watchdog: &mut Watchdog, clock: u32, answer: &mut Answer);
+    fn spwd_c_next(
+        rows: &Rows,
+        aims: &Aims,
+        numbers: &Numbers,
+        initiator: u8,
+        target: u8,
+        length: u16,
+        slot: u8,
+        answer: &mut [u32; 2],
+    );
     fn spwd_c_write_out(
         sets: &Sets,
         ends: &Ends,
@@ -251,7 +260,6 @@ pub(crate) fn request(
     unsafe {
         spwd_c_request(
             &plan.rows,
-            &plan.spans,
             &plan.aims,
             &plan.numbers,
             run,
@@ -297,6 +305,26 @@ pub(crate) fn reading(plan: &Plan, watchdog: &mut Watchdog, clock: u32) -> [u32;
         spwd_c_reading(&plan.numbers, watchdog, clock, &mut answer);
         answer.0.assume_init()
     }
+}
+
+/// Number and count.
+#[inline]
+pub(crate) fn next(plan: &Plan, initiator: u8, target: u8, length: u16, slot: u8) -> [u32; 2] {
+    let mut answer = [0; 2];
+    // SAFETY: numbers, and references of the sizes that are declared.
+    unsafe {
+        spwd_c_next(
+            &plan.rows,
+            &plan.aims,
+            &plan.numbers,
+            initiator,
+            target,
+            length,
+            slot,
+            &mut answer,
+        )
+    }
+    answer
 }
 
 /// Number and size.

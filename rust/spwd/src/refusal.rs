@@ -1,26 +1,26 @@
-//! Refusals of events and of writing out.
+//! Refusals of events, of the next turn and of writing out.
 
 use core::fmt;
 use core::num::NonZeroU8;
 
-/// Why an event or writing out was refused: 20 to 30. A refusal changes nothing.
+/// Why an event, the next turn or writing out was refused: 20 to 30, and 33. A refusal changes nothing.
 #[must_use]
 #[derive(Clone, Copy, Debug, PartialEq, Eq, PartialOrd, Ord, Hash)]
 pub struct Refusal(NonZeroU8);
 
 impl Refusal {
-    /// 20, every event and writing out: there is no plan.
+    /// 20, every event, the next turn and writing out: there is no plan.
     pub const NO_PLAN: Self = Self::of(20);
     /// 21, time-code: the byte's upper two bits are not 0.
     pub const UPPER_BITS: Self = Self::of(21);
-    /// 22, request and reply: not an initiator of the plan.
+    /// 22, request, reply and next turn: not an initiator of the plan.
     pub const NO_INITIATOR: Self = Self::of(22);
     /// 23, request: the kind is neither [`READ`](crate::READ) nor [`WRITE`](crate::WRITE).
     pub const UNKNOWN_KIND: Self = Self::of(23);
-    /// 24, request: length over [`LENGTH_MOST`](crate::LENGTH_MOST).
+    /// 24, request and next turn: length over [`LENGTH_MOST`](crate::LENGTH_MOST).
     pub const LENGTH_OVER_MOST: Self = Self::of(24);
-    /// 25, request: no entry of this initiator permits the target with this length, which is 256 bytes for each slot of its span, or
-    /// what the plan's times allow.
+    /// 25, request and next turn: no entry of this initiator permits the target with this length, which is 256 bytes for each slot of its
+    /// span, or what the plan's times allow.
     pub const NOT_PERMITTED: Self = Self::of(25);
     /// 26, request: [`WAITING_MOST`](crate::WAITING_MOST) are waiting already.
     pub const LINE_FULL: Self = Self::of(26);
@@ -32,6 +32,8 @@ impl Refusal {
     pub const SMALL_BUFFER: Self = Self::of(29);
     /// 30, writing out: the room is under the size needed.
     pub const SMALL_ROOM: Self = Self::of(30);
+    /// 33, next turn: the slot is not below [`SLOTS`](crate::SLOTS).
+    pub const SLOT_OVER_MOST: Self = Self::of(33);
 
     const fn of(number: u8) -> Self {
         match NonZeroU8::new(number) {

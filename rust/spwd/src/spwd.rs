@@ -160,6 +160,33 @@ impl Spwd {
         whole(numbers, taken(number).map(|()| late != 0), Answer::Told)
     }
 
+    /// How many slots after this one the next turn is: the next slot at which an entry of the initiator stands that permits the target with
+    /// this length. 1 is the slot after it, [`SLOTS`](crate::SLOTS) that slot again. Only the plan is asked, not what waits or is live.
+    ///
+    /// With the slot of the last time-code taken since the load, if there was one: a request that is taken now, into an empty line, starts
+    /// at the time-code of this count, if all from here on are in sequence.
+    ///
+    /// ```
+    /// # let plan = [
+    /// #     1, 0, 2, 1, 0, 1, 0, 2, 2, 0, 2, 0, 3, 0, 1, 2, 3, 0, 3, 1, 2, 0, 4, 0, 4, 1, 5, 1, 2,
+    /// #     5, 0, 8, 0, 0, 0, 90, 0, 0, 0, 110,
+    /// # ];
+    /// # let mut spwd = spwd::Spwd::new();
+    /// # spwd.load(&plan).unwrap();
+    /// // Under a plan where 1 may start to 2 in slot 5.
+    /// assert_eq!(spwd.next(1, 2, 100, 3), Ok(2));
+    /// assert_eq!(spwd.next(1, 2, 100, 5), Ok(64));
+    /// assert_eq!(spwd.next(1, 2, 257, 3), Err(spwd::Refusal::NOT_PERMITTED));
+    /// ```
+    ///
+    /// # Errors
+    /// [`Refusal::NO_PLAN`], [`Refusal::NO_INITIATOR`], [`Refusal::LENGTH_OVER_MOST`], [`Refusal::NOT_PERMITTED`],
+    /// [`Refusal::SLOT_OVER_MOST`].
+    #[inline]
+    pub fn next(&self, initiator: u8, target: u8, length: u16, slot: u8) -> Result<u8, Refusal> {
+        self.plan.next(initiator, target, length, slot)
+    }
+
     /// Writes the plan out as a file, in canonical order, and gives its size, at most [`WRITTEN_MOST`](crate::WRITTEN_MOST).
     /// Room beyond it keeps its bytes; on a refusal all of it does.
     ///

@@ -153,7 +153,9 @@ fn refusals_as_text() {
         Refusal::OTHER_TRANSACTION,
         Refusal::SMALL_BUFFER,
         Refusal::SMALL_ROOM,
+        Refusal::SLOT_OVER_MOST,
     ]
     .map(Refusal::number);
-    assert_eq!(numbers.to_vec(), (20..=30).collect::<Vec<u8>>());
+    let right = (20..=30).chain([33]);
+    assert_eq!(numbers.to_vec(), right.collect::<Vec<u8>>());
 }

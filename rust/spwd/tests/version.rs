@@ -20,8 +20,8 @@ fn the_header_has_it_too() {
 /// Those that the header holds C to.
 #[test]
 fn sizes() {
-    assert_eq!((size_of::<Plan>(), size_of::<Spwd>()), (9_744, 10_536));
+    assert_eq!((size_of::<Plan>(), size_of::<Spwd>()), (14_864, 15_656));
     let header = include_str!("../../../c/spwd.h");
-    assert!(header.contains("sizeof(spwd_plan) == 9744"));
-    assert!(header.contains("sizeof(spwd_box) == 10536"));
+    assert!(header.contains("sizeof(spwd_plan) == 14864"));
+    assert!(header.contains("sizeof(spwd_box) == 15656"));
 }

@@ -30,6 +30,11 @@ either false b e = inr e
 pub not-both : {A : Type 0} {a : Bool} → a ≡ true → a ≡ false → A
 not-both e f = absurd (true≢false (sym e ∙ f))
 
+-- a test that cannot be passed
+pub never-true : (a : Bool) → (a ≡ true → ⊥) → a ≡ false
+never-true true f = absurd (f refl)
+never-true false f = refl
+
 -- two tests that hold together are the same test
 pub same-test : (a b : Bool) → (a ≡ true → b ≡ true) → (b ≡ true → a ≡ true) → a ≡ b
 same-test true b f g = sym (f refl)

@@ -166,6 +166,13 @@ mul-aims c = omega (arith, index-in (c .before .before .before))
 element-write-aims : tie.Need-element-write-aims
 element-write-aims c = omega (arith, index-in (c .before .before .before))
 
+keep-turns-requires : tie.Need-keep-turns-requires
+keep-turns-requires c κs =
+    let m = c .before .before .before .before in
+    let k = row (m .before) in
+    let x = asked (start k) in
+    (omega (arith, there m), (entry-range x (sought k .inside)) .span, targets-inside (x .initiator) (x .slot) (x .span) (x .targets) (sought k .inside))
+
 element-copy-out-entries : tie.Need-element-copy-out-entries
 element-copy-out-entries c = search needs
 
@@ -177,11 +184,12 @@ element-write-numbers c = search needs
 
 returns-6 : tie.Need-returns-6
 returns-6 c =
-    let e = c .before .before in
+    let e = c .before .before .before .before in
     let m = e .before .before .before in
     let k = row (m .before) in
     entry-taken (free (m .before)) (start k .pre) (there m) (sym (targets-within k _) ∙ sym (e .before .within .ensures) ∙ not-false _ (e .if6 .left))
     (gathered k .gather .result .set) (set-fits (gathered k)) (told k .1) (c .wrapping-add-u32 .result) (c .wrapping-add-u32 .ensures)
+    _ (c .before .before .keep-turns .ensures)
 
 pub entry-spec : {M : Type 1} → statement M
 entry-spec =
@@ -208,6 +216,7 @@ entry-spec =
     element-write-spans
     mul-aims
     element-write-aims
+    keep-turns-requires
     element-copy-out-entries
     wrapping-add-u32-requires
     element-write-numbers

@@ -17,12 +17,12 @@ use Rattle.rules_plan.specs.Plan.{nth, Timing, Plan, blank, timing}
 use Rattle.rules_plan.specs.Good.{Good}
 use Rattle.rules_plan.specs.laws.Items.{timing-in}
 use Rattle.rules_plan.specs.laws.Ranges.{timing-range}
-use Rattle.memory_plan.specs.Memory.{setsOf, endOf, endsOf, rowsOf, ofRow, reachOf, pathsInOrder, repliesInOrder, placesFor, pathsOf, spansOf, aimsOf, costOf, costsAmong, numbersWith, Holds}
+use Rattle.memory_plan.specs.Memory.{setsOf, endOf, endsOf, rowsOf, ofRow, reachOf, pathsInOrder, repliesInOrder, placesFor, pathsOf, spansOf, slotAims, turnsOf, longOf, aimsOf, costOf, costsAmong, numbersWith, Holds}
 
 -- every array of the blank plan is all 0
-pub holds-blank : Holds blank (replicate 3 0) (replicate 128 0) (replicate 8 0) (replicate 8 0) (replicate 2816 0) (replicate 512 0) (replicate 512 0) (replicate 524 0)
+pub holds-blank : Holds blank (replicate 3 0) (replicate 128 0) (replicate 8 0) (replicate 8 0) (replicate 2816 0) (replicate 512 0) (replicate 1152 0) (replicate 524 0)
 unfolding
-    blank setsOf endsOf endOf rowsOf reachOf ofRow pathsOf placesFor pathsInOrder repliesInOrder spansOf aimsOf costOf costsAmong numbersWith leastOf greatestOf timesOf
+    blank setsOf endsOf endOf rowsOf reachOf ofRow pathsOf placesFor pathsInOrder repliesInOrder spansOf slotAims turnsOf longOf aimsOf costOf costsAmong numbersWith leastOf greatestOf timesOf
     hasKind isLink initiators isInitiator hasPath entryAt written items packed packedBelow digit cells padded inOrder flatMap find keep any atPlace upFrom below64
 holds-blank = record { sets = refl; ends = refl; rows = refl; reach = refl; paths = refl; spans = refl; aims = refl; numbers = refl }
 

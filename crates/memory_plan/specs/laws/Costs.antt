@@ -17,6 +17,7 @@ use Rattle.lists.specs.laws.At.{at-within}
 use Rattle.lists.specs.laws.Bools.{both-true, true-both, not-both, same-test}
 use Rattle.lists.specs.Cells.{cells}
 use Rattle.lists.specs.laws.Cells.{cell-at}
+use Rattle.lists.specs.laws.Numbers.{first-from}
 use Rattle.lists.specs.laws.Search.{find-some}
 use Rattle.lists.specs.laws.Found.{find-one, read-shuffled}
 use Rattle.lists.specs.laws.More.{find-same}
@@ -48,7 +49,7 @@ costs-at p x ys xs r i t row low at =
 -- without times, and without paths, they are all 0
 pub no-costs : (p : Plan) (ys xs : List Route) → p .times ≡ [] → costsAmong p (timesOf (p .times)) ys xs ≡ cells 512 (λ (n : ℕ). 0)
 unfolding costsAmong costOf timesOf
-no-costs p ys xs e = ap (λ (zs : List Times). costsAmong p (timesOf zs) ys xs) e ∙ no-cells p (λ i t. costOf (timesOf []) ys (find (leadsFrom i t) xs)) (λ i t. free (find (leadsFrom i t) xs))
+no-costs p ys xs e = ap (λ (zs : List Times). costsAmong p (timesOf zs) ys xs) e ∙ no-cells p 512 (λ n. n / 64) (λ n. n % 64) (λ i t. costOf (timesOf []) ys (find (leadsFrom i t) xs)) (λ i t. free (find (leadsFrom i t) xs))
   where
     free : (o : Option Route) → costOf (timesOf []) ys o ≡ 0
     free none = refl
@@ -56,7 +57,7 @@ no-costs p ys xs e = ap (λ (zs : List Times). costsAmong p (timesOf zs) ys xs) 
 
 pub costs-none : (p : Plan) (x : Times) (ys : List Route) → costsAmong p x ys [] ≡ cells 512 (λ (n : ℕ). 0)
 unfolding costsAmong costOf find
-costs-none p x ys = no-cells p (λ i t. costOf x ys (find (leadsFrom i t) [])) (λ i t. refl)
+costs-none p x ys = no-cells p 512 (λ n. n / 64) (λ n. n % 64) (λ i t. costOf x ys (find (leadsFrom i t) [])) (λ i t. refl)
 
 -- the order of the replies and of the paths does not matter, where none is there twice
 pub costs-shuffled : (p : Plan) (x : Times) {ys zs xs ws : List Route} → Shuffled _≡_ ys zs → repeats samePathEnds ys ≡ false → Shuffled _≡_ xs ws → repeats samePathEnds xs ≡ false
@@ -184,3 +185,8 @@ module _ (p : Plan) (size : ℕ) (numbers : List ℕ) (is : numbers ≡ numbersW
     pub least-told : (n : ℕ) → leastInWords numbers r t n ≡ leastSpan p i t n
     unfolding leastInWords leastSpan
     least-told n = ap (firstFrom 16 1) (fun-ext (fits-told n))
+
+-- it is one slot at least
+pub least-words : (numbers : List ℕ) (row target n : ℕ) → 1 ≤ leastInWords numbers row target n
+unfolding leastInWords
+least-words numbers row target n = (first-from 16 1 (fitsInWords numbers row target n)) .from

@@ -21,8 +21,9 @@ use Rattle.memory_plan.specs.Memory.{ofRow}
 use Rattle.memory_plan.specs.laws.InRows.{of-row, of-no-row}
 use Rattle.memory_plan.specs.laws.Among.{row-once}
 
-pub no-cells : (p : Plan) (f : ℕ → ℕ → ℕ) → ((i v : ℕ) → f i v ≡ 0) → cells 512 (λ (n : ℕ). ofRow p (n / 64) (λ (i : ℕ). f i (n % 64))) ≡ cells 512 (λ (n : ℕ). 0)
-no-cells p f none-said = cells-same 512 _ _ 0 (λ n h. here (n / 64) (n % 64))
+pub no-cells : (p : Plan) (size : ℕ) (row key : ℕ → ℕ) (f : ℕ → ℕ → ℕ) → ((i v : ℕ) → f i v ≡ 0)
+    → cells size (λ (n : ℕ). ofRow p (row n) (λ (i : ℕ). f i (key n))) ≡ cells size (λ (n : ℕ). 0)
+no-cells p size row key f none-said = cells-same size _ _ 0 (λ n h. here (row n) (key n))
   where
     here : (r v : ℕ) → ofRow p r (λ (i : ℕ). f i v) ≡ 0
     here r v = go (atPlace r (initiators p)) refl

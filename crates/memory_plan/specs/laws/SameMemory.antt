@@ -3,10 +3,10 @@ use mathlib.Core.Path.{_≡_, refl, ap, ap₂, _∙_, fun-ext}
 use mathlib.Core.Logic.{_↔_}
 use mathlib.Core.List.{List, _++_, map}
 use mathlib.Core.Option.{Option, none, some}
-use mathlib.Core.Bool.{false, cond}
+use mathlib.Core.Bool.{Bool, false, cond}
 use Prim.Native.Nat.{ℕ, _/_, _%_, min, max}
 use native.Mathlib.Omega.{arith}
-use lib.Dec.{eqb}
+use lib.Dec.{ltb, eqb}
 use Rattle.lists.specs.Search.{repeats, isIn}
 use Rattle.lists.specs.Place.{atPlace}
 use Rattle.lists.specs.Cells.{cells, padded}
@@ -21,7 +21,7 @@ use Rattle.rules_plan.specs.Good.{Good, sameLinkNumber, samePathEnds, sameEntry
 use Rattle.rules_plan.specs.laws.Same.{link-refl, entry-refl, plan-sym, same-ends, same-hasKind, same-isLink, same-hasPath, same-initiators, same-standsAt}
 use Rattle.rules_plan.specs.laws.SameItems.{same-length, good-same}
 use Rattle.rules_plan.specs.laws.Canonical.{same-canonical}
-use Rattle.memory_plan.specs.Memory.{setsOf, endOf, endsOf, rowsOf, ofRow, reachOf, pathsInOrder, turned, noRoute, replyOf, repliesInOrder, placesFor, pathsOf, spanOf, spansOf, aimOf, aimsOf, costsAmong, costsOf, numbersWith, numbersOf, Holds}
+use Rattle.memory_plan.specs.Memory.{setsOf, endOf, endsOf, rowsOf, ofRow, reachOf, pathsInOrder, turned, noRoute, replyOf, repliesInOrder, placesFor, pathsOf, spanOf, spansOf, aimOf, slotAims, hasTarget, longerThan, slotsWith, turnsOf, longOf, aimsOf, costsAmong, costsOf, numbersWith, numbersOf, Holds}
 use Rattle.memory_plan.specs.laws.Costs.{costs-shuffled}
 
 -- a link's ends in order, whichever stands first
@@ -32,6 +32,14 @@ same-endOf side = same-ends (λ a b. cond (eqb side 0) (min a b) (max a b)) (λ 
 same-aimOf : Respects SameEntry (λ (e : Entry). aimOf (some e))
 unfolding aimOf isIn
 same-aimOf e f h = ap packed (fun-ext (λ t. any-shuffled (eqb t) (eq-respects (eqb t)) (h .targets)))
+
+same-hasTarget : (t : ℕ) → Respects SameEntry (λ (e : Entry). hasTarget t (some e))
+unfolding hasTarget isIn
+same-hasTarget t e f h = any-shuffled (eqb t) (eq-respects (eqb t)) (h .targets)
+
+same-longerThan : (k : ℕ) → Respects SameEntry (λ (e : Entry). longerThan k (some e))
+unfolding longerThan
+same-longerThan k e f h = ap (ltb k) (h .span)
 
 same-spanOf : Respects SameEntry (λ (e : Entry). spanOf (some e))
 unfolding spanOf
@@ -86,9 +94,19 @@ module _ {p q : Plan} (s : SamePlan p q) where
     unfolding spansOf
     same-spans = ap (cells 512) (fun-ext λ n. same-ofRow (n / 64) _ _ (λ i. same-entryAt spanOf same-spanOf i (n % 64)))
 
+    same-slotAims : slotAims p ≡ slotAims q
+    unfolding slotAims
+    same-slotAims = ap (cells 512) (fun-ext λ n. same-ofRow (n / 64) _ _ (λ i. same-entryAt aimOf same-aimOf i (n % 64)))
+
+    same-slotsWith : (g : Option Entry → Bool) → Respects SameEntry (λ (e : Entry). g (some e)) → (i : ℕ) → slotsWith g (p .entries) i ≡ slotsWith g (q .entries) i
+    unfolding slotsWith
+    same-slotsWith g c i = ap packed (fun-ext λ v. same-entryAt g c i v)
+
     pub same-aims : aimsOf p ≡ aimsOf q
-    unfolding aimsOf
-    same-aims = ap (cells 512) (fun-ext λ n. same-ofRow (n / 64) _ _ (λ i. same-entryAt aimOf same-aimOf i (n % 64)))
+    unfolding aimsOf turnsOf longOf
+    same-aims = ap₂ _++_ same-slotAims (ap₂ _++_
+        (ap (cells 512) (fun-ext λ n. same-ofRow (n / 64) _ _ (same-slotsWith (hasTarget (n % 64)) (same-hasTarget (n % 64)))))
+        (ap (cells 128) (fun-ext λ n. same-ofRow (n / 16) _ _ (same-slotsWith (longerThan (n % 16)) (same-longerThan (n % 16))))))
 
   -- where no path and no reply is there twice
   pub same-costs : repeats samePathEnds (p .paths) ≡ false → repeats samePathEnds (p .replies) ≡ false → costsOf p ≡ costsOf q

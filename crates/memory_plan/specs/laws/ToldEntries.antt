@@ -14,7 +14,7 @@ use Rattle.lists.specs.laws.Bools.{both-true, true-both}
 use Rattle.lists.specs.laws.Search.{find-some, keep-same, below64-range}
 use Rattle.lists.specs.laws.Order.{one-pair}
 use Rattle.lists.specs.laws.Found.{find-one, place-of}
-use Rattle.lists.specs.laws.Told.{cells-told}
+use Rattle.lists.specs.laws.Told.{cells-told, append-told}
 use Rattle.lists.specs.laws.OneOrder.{Among}
 use Rattle.rules_plan.specs.Plan.{Entry, Plan}
 use Rattle.rules_plan.specs.Meaning.{initiators, standsAt, entryAt}
@@ -24,8 +24,8 @@ use Rattle.rules_plan.specs.laws.Ranges.{EntryRange}
 use Rattle.rules_plan.specs.laws.InRange.{entry-ranged}
 use Rattle.rules_plan.specs.laws.Initiators.{in-initiators}
 use Rattle.rules_plan.specs.laws.Entries
-use Rattle.memory_plan.specs.Memory.{ofRow, spanOf, spansOf, aimOf, aimsOf}
-use Rattle.memory_plan.specs.laws.InRows.{of-row}
+use Rattle.memory_plan.specs.Memory.{ofRow, spanOf, spansOf, aimOf, slotAims, aimsOf}
+use Rattle.memory_plan.specs.laws.InRows.{of-row, length-slotAims}
 use Rattle.memory_plan.specs.laws.ToldPlan.{packed-told}
 
 -- the initiator of an entry has a row: some target of the entry has a path from it
@@ -47,7 +47,7 @@ module _ (p q : Plan) (e : initiators p ≡ initiators q) (eight : length (initi
 
   -- each entry of p is one of q, up to the order of its targets
   pub told-entries : Good p → spansOf p ≡ spansOf q → aimsOf p ≡ aimsOf q → Among withRising (p .entries) (q .entries)
-  unfolding spansOf aimsOf spanOf aimOf entryAt standsAt sameEntryPlace withRising rising
+  unfolding spansOf aimsOf slotAims spanOf aimOf entryAt standsAt sameEntryPlace withRising rising
   told-entries good spans aims x m = go (entryAt (q .entries) (x .initiator) (x .slot)) refl
     where
       range : EntryRange x
@@ -64,7 +64,7 @@ module _ (p q : Plan) (e : initiators p ≡ initiators q) (eight : length (initi
       span o f = rw (mine, f) at (read-told spanOf spans (x .initiator) (x .slot) row (range .slot))
 
       aim : (o : Option Entry) → entryAt (q .entries) (x .initiator) (x .slot) ≡ o → aimOf (some x) ≡ aimOf o
-      aim o f = rw (mine, f) at (read-told aimOf aims (x .initiator) (x .slot) row (range .slot))
+      aim o f = rw (mine, f) at (read-told aimOf ((append-told (slotAims p) (slotAims q) _ _ (length-slotAims p ∙ sym (length-slotAims q)) aims) .0) (x .initiator) (x .slot) row (range .slot))
 
       go : (o : Option Entry) → entryAt (q .entries) (x .initiator) (x .slot) ≡ o → (y : Entry) × List·Memᴰ y (q .entries) × (withRising x ≡ withRising y)
       go none f = absurd (omega (arith, range .some-span, span none f))

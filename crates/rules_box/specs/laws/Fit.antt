@@ -16,7 +16,7 @@ use Rattle.lists.specs.laws.Rows.{rise, no-row}
 use Rattle.lists.specs.laws.At.{at-member}
 use Rattle.lists.specs.laws.Place.{first-some, without-member, without-short}
 use Rattle.rules_plan.specs.Plan.{Entry, Plan}
-use Rattle.rules_plan.specs.Meaning.{isInitiator}
+use Rattle.rules_plan.specs.Meaning.{isInitiator, mayStart}
 use Rattle.rules_plan.specs.Verdict.{number}
 use Rattle.rules_plan.specs.Judge.{judge}
 use Rattle.rules_plan.specs.Canon.{planOf}
@@ -28,13 +28,13 @@ use Rattle.rules_box.specs.declared.Event.the-variants.{TimeCode, Reques
 use Rattle.rules_box.specs.declared.Watchdog.{Watchdog}
 use Rattle.rules_box.specs.State as state
 use Rattle.rules_box.specs.State.{Box, Side, Live, idle, cleared, holding, loaded, isAccepted, thePlan}
-use Rattle.rules_box.specs.Refuse.{refusal, refusals, mayStart}
+use Rattle.rules_box.specs.Refuse.{refusal, refusals}
 use Rattle.rules_box.specs.Turn.{Start, asked, join, finish, older, survives, aged, visited, allows, starting, fresh, begun, startOf, turned, inSequence}
 use Rattle.rules_box.specs.Step.{Outcome, accepts, withSide, ticked}
 use Rattle.rules_box.specs.History.{Reached, by-clear, by-load, by-event}
 use Rattle.rules_box.specs.laws.Turns.{Outlives, outlives, visited-has, starting-elim, begins, turned-rest}
 use Rattle.rules_box.specs.laws.Steps.{step-cases}
-use Rattle.rules_box.specs.laws.Permitted.{permitted-by}
+use Rattle.rules_plan.specs.laws.Permitted.{permitted-by}
 
 pub record FitRequest (r : state.Request) : Type 0 where
   pub target : r .target < 64

@@ -13,6 +13,7 @@ use Rattle.rules_plan.specs.Meaning.{initiators}
 use Rattle.memory_plan.specs.View.{Timed, Owner, owner, ownerOf}
 use Rattle.rules_box.specs.declared.Event.the-variants.{Reply}
 use Rattle.rules_box.specs.declared.Answer.{Answer}
+use Rattle.rules_box.specs.declared.Answer.the-variants.{Refused}
 use Rattle.rules_box.specs.declared.Watchdog.{Watchdog}
 use Rattle.rules_box.specs.State.{Box, Side, noPlan, thePlan}
 use Rattle.rules_box.specs.Turn.{finish}
@@ -24,9 +25,10 @@ use Rattle.memory_run.specs.Run.{rowOf, sideOf, changed, rowsWith}
 use Rattle.memory_run.specs.laws.RunSides.{on-row, runs-kept, runs-changed}
 use Rattle.run_requests.specs.Replied.{repliedAnswer, repliedSide}
 use Rattle.memory_run.specs.Memory.{Finds, Answers}
-use Rattle.memory_run.specs.laws.Found.{Rowed, plan-by-row, is-initiator, its-row, no-initiator}
+use Rattle.memory_plan.specs.laws.Found.{Rowed}
+use Rattle.memory_run.specs.laws.Found.{plan-by-row, is-initiator, its-row, no-initiator}
 use Rattle.memory_run.specs.laws.Refused.{refuses}
-use Rattle.run_requests.specs.NoRow.{noRow}
+use Rattle.ask_next.specs.Refused.{noRow}
 use Rattle.run_requests.proofs.no_row.Strangers.{refused-strange}
 use Rattle.run_requests.specs.laws.Live.{no-number}
 
@@ -43,7 +45,7 @@ module _
     abbrev Gives : Answer → List ℕ → Type 0
     Gives r run′ = Answers (step room b w (Reply i m status)) r run′ last
 
-    pub stranger : 8 ≤ row → (r : Answer) → ((o : Option Plan) → Timed o numbers → r ≡ noRow o) → Gives r run
+    pub stranger : 8 ≤ row → (r : Answer) → ((o : Option Plan) → Timed o numbers → r ≡ Refused (noRow o)) → Gives r run
     unfolding refusal refusals firstOf noPlan
     stranger h = refused-strange f room w (Reply i m status) by
       where

@@ -1,9 +1,9 @@
 -- A request, row by row of the refusals; where the plan permits it, what is told of its initiator's row.
-use mathlib.Core.Path.{_≡_, refl, sym, _∙_}
+use mathlib.Core.Path.{_≡_, refl, sym, ap, _∙_}
 use mathlib.Core.List.{List, _++_}
 use mathlib.Core.Option.{Option, some}
-use mathlib.Core.Bool.{Bool, true, false, cond}
-use Prim.Native.Nat.{ℕ, _*_, _≤_, _<_}
+use mathlib.Core.Bool.{Bool, true, false, not, cond}
+use Prim.Native.Nat.{ℕ, _*_, _^_, _≤_, _<_}
 use lib.ListN.{take, drop}
 use lib.Dec.{eqb, ltb}
 use borrow.Author.Tests.{lt-ltb, le-ltb}
@@ -12,30 +12,32 @@ use Rattle.lists.specs.Rows.{firstOf}
 use Rattle.lists.specs.Place.{atPlace}
 use Rattle.lists.specs.laws.Bools.{cond-cases}
 use Rattle.rules_plan.specs.Plan.{Plan}
-use Rattle.rules_plan.specs.Meaning.{isInitiator, initiators, leastSpan}
+use Rattle.bitsets.specs.Set.{member}
+use Rattle.rules_plan.specs.Meaning.{isInitiator, initiators, leastSpan, mayStart}
+use Rattle.rules_plan.specs.laws.Permitted.{permitted-short, never-beyond}
 use Rattle.memory_plan.specs.Spans.{leastInWords}
 use Rattle.memory_plan.specs.View.{Timed, owner, ownerOf}
+use Rattle.memory_plan.specs.Turns.{turnInWords}
 use Rattle.memory_plan.specs.laws.Costs.{least-told}
+use Rattle.memory_plan.specs.laws.Turns.{may-told}
 use Rattle.rules_box.specs.declared.Event.the-variants.{Request}
 use Rattle.rules_box.specs.declared.Answer.{Answer}
 use Rattle.rules_box.specs.declared.Answer.the-variants.{Refused}
 use Rattle.rules_box.specs.declared.Watchdog.{Watchdog}
 use Rattle.rules_box.specs.State.{Box, Side, noPlan, thePlan}
 use Rattle.rules_box.specs.Turn.{join}
-use Rattle.rules_box.specs.Refuse.{refusal, refusals, mayStart}
+use Rattle.rules_box.specs.Refuse.{refusal, refusals}
 use Rattle.rules_box.specs.Step.{step, accepts}
 use Rattle.rules_box.specs.laws.Fit.{FitSide}
 use Rattle.rules_box.specs.laws.Steps.{step-accepted}
-use Rattle.rules_box.specs.laws.Permitted.{permitted-short}
 use Rattle.memory_run.specs.Run.{rowOf, sideOf, changed, rowsWith}
 use Rattle.memory_run.specs.laws.RunSides.{on-row, runs-kept, runs-changed}
-use Rattle.run_requests.specs.Asked.{Tried, isFull, askedAnswer, askedSide}
+use Rattle.run_requests.specs.Asked.{isFull, askedAnswer, askedSide}
 use Rattle.memory_run.specs.Memory.{Finds, Answers}
-use Rattle.memory_run.specs.laws.Found.{Rowed, plan-by-row, is-initiator, its-row, no-initiator}
+use Rattle.memory_plan.specs.laws.Found.{Rowed}
+use Rattle.memory_run.specs.laws.Found.{plan-by-row, is-initiator, its-row, no-initiator}
 use Rattle.memory_run.specs.laws.Refused.{refuses}
-use Rattle.run_requests.specs.NoRow.{noRow}
-use Rattle.run_requests.specs.NotPermitted.{notPermitted}
-use Rattle.run_requests.proofs.asking.Slots.{never-beyond}
+use Rattle.ask_next.specs.Refused.{noRow, noTurn}
 use Rattle.run_requests.proofs.no_row.Strangers.{refused-strange}
 
 module _
@@ -51,7 +53,7 @@ module _
     abbrev Gives : Answer → List ℕ → Type 0
     Gives r run′ = Answers (step room b w (Request i t k n)) r run′ last
 
-    pub stranger : 8 ≤ row → (r : Answer) → ((o : Option Plan) → Timed o numbers → r ≡ noRow o) → Gives r run
+    pub stranger : 8 ≤ row → (r : Answer) → ((o : Option Plan) → Timed o numbers → r ≡ Refused (noRow o)) → Gives r run
     unfolding refusal refusals firstOf noPlan
     stranger h = refused-strange f room w (Request i t k n) by
       where
@@ -75,34 +77,39 @@ module _
 
       module _ (kind : k ≤ 1) where
         -- where the plan does not permit it, 24 or 25
-        not-permitted : mayStart (thePlan b) ((thePlan b) .entries) i t n ≡ false → (r : Answer) → r ≡ notPermitted n → Gives r run
-        unfolding refusal refusals firstOf noPlan notPermitted
-        not-permitted may r is =
+        not-permitted : mayStart (thePlan b) ((thePlan b) .entries) i t n ≡ false → (m : ℕ) → m ≡ noTurn n → Gives (Refused m) run
+        unfolding refusal refusals firstOf noPlan noTurn
+        not-permitted may m is =
             let some-row = cond-cases (λ (m : ℕ). eqb m 0 ≡ false) (ltb 4096 n) 24 25 (λ _. refl) (λ _. refl) in
             rw is (refuses room b w (Request i t k n) _ some-row (rw (there, own, le-ltb 1 k kind, may)) run last (f .runs))
 
         -- no entry has such a target
-        pub beyond : 64 ≤ t → (r : Answer) → r ≡ notPermitted n → Gives r run
+        pub beyond : 64 ≤ t → (m : ℕ) → m ≡ noTurn n → Gives (Refused m) run
         beyond h = not-permitted (never-beyond (thePlan b) (f .fit .sound) i t n h)
 
-      module _ (kind : k ≤ 1) (low-target : t < 64) (need : ℕ) (words : need ≡ leastInWords numbers row t n) (y : Bool) (tried : Tried spans aims row t need y) where
+      -- the set of its turns is read off the summary: it is empty where no entry permits it
+      module _ (kind : k ≤ 1) (low-target : t < 64) (need : ℕ) (words : need ≡ leastInWords numbers row t n)
+          (set : ℕ) (small : set < 2 ^ 64) (read : (v : ℕ) → member v set ≡ turnInWords aims row t need v) where
         least : need ≡ leastSpan (thePlan b) i t n
         unfolding thePlan
         least = words ∙ least-told (thePlan b) _ numbers (f .plan .timed .numbers) (f .plan .sound) row i t at low-target n
 
-        may : mayStart (thePlan b) ((thePlan b) .entries) i t n ≡ y
+        may : mayStart (thePlan b) ((thePlan b) .entries) i t n ≡ not (eqb set 0)
         unfolding thePlan
-        may = sym (tried (thePlan b) i n (record { sound = f .plan .sound; spans = f .plan .spans; aims = f .plan .aims; row = at; need = least }))
+        may = sym (may-told (thePlan b) (f .plan .sound) row i at low t low-target n aims (f .plan .aims) need least set small read)
 
-        pub barred : y ≡ false → (r : Answer) → r ≡ notPermitted n → Gives r run
-        barred h = not-permitted kind (may ∙ h)
+        pub barred : eqb set 0 ≡ true → (m : ℕ) → m ≡ noTurn n → Gives (Refused m) run
+        barred h = not-permitted kind (may ∙ ap not h)
 
-        module _ (permitted : y ≡ true) where
+        module _ (some-turn : eqb set 0 ≡ false) where
+          permitted : mayStart (thePlan b) ((thePlan b) .entries) i t n ≡ true
+          permitted = may ∙ ap not some-turn
+
           last-row : (z : Bool) → isFull (b .side i) ≡ z → refusal room b (Request i t k n) ≡ cond z 26 0
           unfolding refusal refusals firstOf noPlan isFull
           last-row z h =
-              let short = permitted-short (thePlan b) (f .fit .sound) i t n (may ∙ permitted) in
-              rw (there, own, le-ltb 1 k kind, le-ltb 4096 n short, may, permitted, h)
+              let short = permitted-short (thePlan b) (f .fit .sound) i t n permitted in
+              rw (there, own, le-ltb 1 k kind, le-ltb 4096 n short, permitted, h)
 
           -- the request's row, lent and back
           pub asks : (r : Answer) (size : ℕ) (part : List ℕ) → size ≡ 12

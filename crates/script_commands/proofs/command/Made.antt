@@ -99,6 +99,7 @@ made-of-read k cells = go k
           cell 8 6 (omega arith),
           cell 8 7 (omega arith),
         )
+    go kind.Next = rw (cell 4 0 (omega arith), cell 4 1 (omega arith), cell 4 2 (omega arith), cell 4 3 (omega arith))
 
 pub few : (k : Kind) → length (mosts k) ≤ 8
 unfolding mosts
@@ -110,6 +111,7 @@ few kind.Out = omega arith
 few kind.SetWatchdog = omega arith
 few kind.Sheet = omega arith
 few kind.SheetBoth = omega arith
+few kind.Next = omega arith
 
 module _ {ms cells₀ cells : List ℕ} {r : Bool} (k : Kind) (bounds : ms ≡ mosts k) where
   pub numbers-bad : (ws : List (List ℕ)) → NumbersRead ms ws cells₀ cells r → not r ≡ true → Bad ≡ numbered k ws

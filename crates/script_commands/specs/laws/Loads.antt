@@ -19,7 +19,7 @@ use Rattle.script_hex.specs.Hex.{bytesOf}
 use Rattle.script_commands.specs.declared.command.Kind.{Kind}
 use Rattle.script_commands.specs.declared.command.Kind.the-variants as kind
 use Rattle.script_commands.specs.declared.command.Command.{Command}
-use Rattle.script_commands.specs.declared.command.Command.the-variants.{Skip, Bad, Load, Clear, TimeCode, Request, Reply, Reading, Out, Watchdog, SetWatchdog, Sheet}
+use Rattle.script_commands.specs.declared.command.Command.the-variants.{Skip, Bad, Load, Clear, TimeCode, Request, Reply, Reading, Out, Watchdog, SetWatchdog, Sheet, Next}
 use Rattle.script_commands.specs.Script.{mosts, made, numbered, load, alone, Row, commands, named, ofWords, commandOf}
 
 -- the line is a load of the byte string from a place on
@@ -40,6 +40,7 @@ isLoad (Out r) = false
 isLoad Watchdog = false
 isLoad (SetWatchdog l s r b g) = false
 isLoad (Sheet r h s n a d f g) = false
+isLoad (Next i t n s) = false
 
 -- a command of numbers is no load, and so is that of every row but the first
 made-no-load : (k : Kind) (ns : List ℕ) → isLoad (made k ns) ≡ false
@@ -52,6 +53,7 @@ made-no-load kind.Out ns = refl
 made-no-load kind.SetWatchdog ns = refl
 made-no-load kind.Sheet ns = refl
 made-no-load kind.SheetBoth ns = refl
+made-no-load kind.Next ns = refl
 
 no-load : (k : Kind) (ws : List (List ℕ)) → isLoad (numbered k ws) ≡ false
 unfolding numbered isLoad
@@ -84,7 +86,7 @@ only-load name ws at h = go (same name (text "load")) refl
     go false e =
         let f : Every (λ (r : Row). isLoad (r .1 ws) ≡ false) (drop 1 commands) = (
           alone-no-load Clear ws refl,
-          (no-load _ ws, (no-load _ ws, (no-load _ ws, (no-load _ ws, (no-load _ ws, (alone-no-load Watchdog ws refl, (no-load _ ws, (no-load _ ws, (no-load _ ws, tt))))))))),
+          (no-load _ ws, (no-load _ ws, (no-load _ ws, (no-load _ ws, (no-load _ ws, (alone-no-load Watchdog ws refl, (no-load _ ws, (no-load _ ws, (no-load _ ws, (no-load _ ws, tt)))))))))),
         )
         in
         not-both (ap isLoad (rw (e, named) at h)) (others (drop 1 commands) name ws f)

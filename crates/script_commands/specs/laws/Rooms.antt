@@ -14,7 +14,7 @@ use Rattle.script_hex.specs.Hex.{bytesOf}
 use Rattle.script_commands.specs.declared.command.Kind.{Kind}
 use Rattle.script_commands.specs.declared.command.Kind.the-variants as kind
 use Rattle.script_commands.specs.declared.command.Command.{Command}
-use Rattle.script_commands.specs.declared.command.Command.the-variants.{Skip, Bad, Load, Clear, TimeCode, Request, Reply, Reading, Out, Watchdog, SetWatchdog, Sheet}
+use Rattle.script_commands.specs.declared.command.Command.the-variants.{Skip, Bad, Load, Clear, TimeCode, Request, Reply, Reading, Out, Watchdog, SetWatchdog, Sheet, Next}
 use Rattle.script_commands.specs.Script.{mosts, made, numbered, load, alone, Row, commands, named, ofWords, commandOf}
 
 -- "BUF (0 to 4,096)", "ROOM bytes (0 to 32,768)"
@@ -31,6 +31,7 @@ Rooms (Out r) = r ≤ 32_768
 Rooms Watchdog = Unit {0}
 Rooms (SetWatchdog l s r b g) = Unit {0}
 Rooms (Sheet r h s n a d f g) = Unit {0}
+Rooms (Next i t n s) = Unit {0}
 
 -- a command of numbers, one that is its name, and one of a table
 made-rooms : (k : Kind) (ns : List ℕ) → ((i : ℕ) → i < length (mosts k) → getD ns i 0 ≤ getD (mosts k) i 0) → Rooms (made k ns)
@@ -43,6 +44,7 @@ made-rooms kind.Out ns f = f 0 (omega arith)
 made-rooms kind.SetWatchdog ns f = tt
 made-rooms kind.Sheet ns f = tt
 made-rooms kind.SheetBoth ns f = tt
+made-rooms kind.Next ns f = tt
 
 numbered-rooms : (k : Kind) (ws : List (List ℕ)) → Rooms (numbered k ws)
 unfolding numbered
@@ -78,7 +80,7 @@ named-rooms (r ∷ rs) name ws f = go (named-rooms rs name ws (f .1)) (same name
 
 every-room : (ws : List (List ℕ)) → Every (λ (r : Row). Rooms (r .1 ws)) commands
 unfolding commands
-every-room ws = (load-rooms ws, (alone-rooms Clear ws tt, (numbered-rooms _ ws, (numbered-rooms _ ws, (numbered-rooms _ ws, (numbered-rooms _ ws, (numbered-rooms _ ws, (alone-rooms Watchdog ws tt, (numbered-rooms _ ws, (numbered-rooms _ ws, (numbered-rooms _ ws, tt)))))))))))
+every-room ws = (load-rooms ws, (alone-rooms Clear ws tt, (numbered-rooms _ ws, (numbered-rooms _ ws, (numbered-rooms _ ws, (numbered-rooms _ ws, (numbered-rooms _ ws, (alone-rooms Watchdog ws tt, (numbered-rooms _ ws, (numbered-rooms _ ws, (numbered-rooms _ ws, (numbered-rooms _ ws, tt))))))))))))
 
 pub line-rooms : (s : List ℕ) → Rooms (commandOf s)
 unfolding commandOf ofWords

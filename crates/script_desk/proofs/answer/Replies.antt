@@ -8,6 +8,9 @@ use Rattle.lists.specs.laws.Parts.{from-to-end}
 use Rattle.rules_plan.specs.Print.{text}
 use Rattle.rules_plan.specs.declared.Sheet as sheets
 use Rattle.rules_plan.specs.Sheet.{sheetAnswer}
+use Rattle.rules_plan.specs.declared.Next as nexts
+use Rattle.memory_plan.specs.laws.Shown.{held-shown}
+use Rattle.ask_next.specs.Asked.{TellsNext}
 use Rattle.time_sheet.specs.Paced.{paced}
 use Rattle.rules_box.specs.declared.Event.the-variants as event
 use Rattle.rules_box.specs.declared.Watchdog as five
@@ -15,12 +18,12 @@ use Rattle.box_calls.specs.Calls.{Memory, ClearLeaves}
 use Rattle.script_hex.specs.Hex.{bytesOf, decoded}
 use Rattle.script_hex.specs.laws.Bytes.{bytes-decoded}
 use Rattle.script_commands.specs.declared.command.Command.{Command}
-use Rattle.script_commands.specs.declared.command.Command.the-variants.{Skip, Bad, Load, Clear, TimeCode, Request, Reply, Reading, Out, Watchdog, SetWatchdog, Sheet}
+use Rattle.script_commands.specs.declared.command.Command.the-variants.{Skip, Bad, Load, Clear, TimeCode, Request, Reply, Reading, Out, Watchdog, SetWatchdog, Sheet, Next}
 use Rattle.script_commands.specs.Script.{commandOf}
 use Rattle.script_commands.specs.laws.Loads.{load-line}
 use Rattle.script_commands.specs.laws.Rooms.{Rooms, line-rooms}
-use Rattle.script_answers.specs.Texts.{ended, errorLine, watchdogLine, sheetLine, Prints}
-use Rattle.script_desk.specs.Replay.{Kept, fiveOf, kept, Loaded, Stepped, WrittenOut, Replied, Answers}
+use Rattle.script_answers.specs.Texts.{ended, errorLine, watchdogLine, sheetLine, nextLine, Prints}
+use Rattle.script_desk.specs.Replay.{Kept, fiveOf, kept, Loaded, Stepped, WrittenOut, NextAsked, Replied, Answers}
 
 answers-as : {P Q : List ℕ → Type 0} {l o : List ℕ} {k : ℕ} → ((t : List ℕ) → P t → Q t) → Answers P l o k → Answers Q l o k
 answers-as f a = record { printed = a .printed; told = f (a .printed) (a .told); prints = a .prints }
@@ -52,6 +55,14 @@ module _ (line : List ℕ) (n : ℕ) {c : Command} (e : c ≡ commandOf line) wh
         → Answers (Replied (commandOf line) line n k k) l o end
     unfolding Replied
     sheet {x} f g p = rw (is f) (record { printed = sheetLine x; told = (refl, ap sheetLine g); prints = p })
+
+    pub next : {i t size s : ℕ} {x : nexts.Next} → c ≡ Next i t size s → TellsNext (k .memory .rows) (k .memory .aims) (k .memory .numbers) i t size s x → Prints (nextLine x) l o end
+        → Answers (Replied (commandOf line) line n k k) l o end
+    unfolding Replied
+    next {i} {t} {size} {s} {x} f g p =
+        let m = k .memory in
+        let told : NextAsked i t size s m (nextLine x) = λ o h. ap nextLine (g o (m .spans) (held-shown o (m .sets) (m .ends) (m .rows) (m .reach) (m .paths) (m .spans) (m .aims) (m .numbers) h)) in
+        rw (is f) (record { printed = nextLine x; told = (refl, told); prints = p })
 
     pub set : {last seen reported least greatest : ℕ} {w : five.Watchdog} → c ≡ SetWatchdog last seen reported least greatest → w ≡ fiveOf last seen reported least greatest → Prints (ended (text "OK")) l o end
         → Answers (Replied (commandOf line) line n k (kept (k .memory) w)) l o end

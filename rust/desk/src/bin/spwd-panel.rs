@@ -29,7 +29,9 @@ One command a line, words separated by one space, numbers decimal:
     setwd LAST SEEN REPORTED LEAST GREATEST      lends other five
     sheet ROUTERS RATE LENGTH A D F G            the time of a transaction; no plan is asked
     sheet2 ROUTERS BACK RATE LENGTH A D F G      the same, with so many routers on the reply's way
+    next INITIATOR TARGET LENGTH SLOT            the next turn of such a request after a slot, by the plan alone
 An empty line and one that begins with # are skipped. A line that is none of these changes nothing.
+Of a request that waits alone in its line it is said where it starts, once a time-code has said the slot.
 
 Status: 0 every line was a command or skipped, 1 some were not, 3 wrong arguments, or a file that cannot be
 read. Refusals are answers of the box and no failure, nor is a reader that closes the pipe early.

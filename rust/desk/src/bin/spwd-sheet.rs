@@ -1,7 +1,7 @@
 //! How long transactions take: the sheet by itself, and the sheet of a plan.
 #![forbid(unsafe_code)]
 
-use desk::arguments::{given, one_file, Given};
+use desk::arguments::{given, numbers, one_file, own, Given, Options};
 use desk::form::{number, times};
 use desk::judge::judge;
 use desk::page::page;
@@ -58,8 +58,6 @@ const OPTIONS: [(&str, usize); 7] = [
 /// The most bytes that are read; a plan has far fewer.
 const MOST: u64 = 16 << 20;
 
-type Options = [(&'static str, Vec<OsString>)];
-
 fn main() -> ExitCode {
     let status = match given(std::env::args_os().skip(1), &OPTIONS) {
         Ok(Given::Help) => put(HELP.as_bytes()).map(|()| Status::Done),
@@ -102,34 +100,16 @@ fn run(options: &Options, others: Vec<OsString>) -> Result<Status, String> {
     }
 }
 
-/// The words of an option, if it was given.
-fn own<'a>(options: &'a Options, name: &str) -> Result<Option<&'a [OsString]>, String> {
-    let mut given = options.iter().filter(|(option, _)| *option == name);
-    match (given.next(), given.next()) {
-        (_, Some(_)) => Err(format!("{name} stands twice")),
-        (first, None) => Ok(first.map(|(_, words)| &words[..])),
-    }
-}
-
-/// The numbers that so many words are, each at most `most`.
-fn numbers<const N: usize>(words: &[OsString], most: u32) -> Result<[u32; N], String> {
-    let mut numbers = [0; N];
-    for (place, word) in numbers.iter_mut().zip(words) {
-        *place = number(&word.to_string_lossy(), most)?;
-    }
-    Ok(numbers)
-}
-
 /// The routers of the command and of the reply, the rate and the latencies.
 fn asked(
     [command, reply]: [&[OsString]; 2],
     rate: &[OsString],
     latencies: &[OsString],
 ) -> Result<Asked, String> {
-    let [command] = numbers(command, u8::MAX.into())?;
-    let [reply] = numbers(reply, u8::MAX.into())?;
-    let [rate] = numbers(rate, u16::MAX.into())?;
-    let [a, d, f, g] = numbers(latencies, u32::MAX)?;
+    let [command] = numbers(command, [u8::MAX.into()])?;
+    let [reply] = numbers(reply, [u8::MAX.into()])?;
+    let [rate] = numbers(rate, [u16::MAX.into()])?;
+    let [a, d, f, g] = numbers(latencies, [u32::MAX; 4])?;
     Ok(Asked {
         routers: Routers {
             command: command as u8,

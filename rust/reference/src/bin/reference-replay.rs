@@ -50,6 +50,12 @@ enum Command {
     Watchdog,
     SetWatchdog(Watchdog),
     Sheet(Result<Sheet, Fault>),
+    Next {
+        initiator: u8,
+        target: u8,
+        length: u16,
+        slot: u8,
+    },
 }
 
 struct Replay {
@@ -130,6 +136,12 @@ impl Replay {
             }),
             b"sheet" => Command::Sheet(words.sheet()?),
             b"sheet2" => Command::Sheet(words.sheet2()?),
+            b"next" => Command::Next {
+                initiator: words.byte()?,
+                target: words.byte()?,
+                length: words.short()?,
+                slot: words.byte()?,
+            },
             _ => return None,
         };
         words.next().is_none().then_some(command)
@@ -156,6 +168,15 @@ impl Replay {
             }
             Command::Sheet(Ok(sheet)) => self.numbers(&[0, sheet.total]),
             Command::Sheet(Err(fault)) => self.numbers(&[fault as u32, 0]),
+            Command::Next {
+                initiator,
+                target,
+                length,
+                slot,
+            } => {
+                let (number, count) = self.unit.next(initiator, target, length, slot);
+                self.numbers(&[number.into(), count.into()]);
+            }
         }
     }
 

@@ -273,6 +273,14 @@ impl Driver {
         })
     }
 
+    /// The next turn by the summary, which must be that of the search over all entries.
+    pub fn next(&self, initiator: u8, target: u8, length: u16, slot: u8) -> (u8, u8) {
+        let answer = self.unit.next(initiator, target, length, slot);
+        let searched = self.unit.next_by_entries(initiator, target, length, slot);
+        assert_eq!(answer, searched, "{initiator} {target} {length} {slot}");
+        answer
+    }
+
     pub fn reading(&mut self, clock: u32) -> bool {
         match self.step(Event::Reading { clock }) {
             Answer::Reading { late } => late,

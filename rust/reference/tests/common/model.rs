@@ -469,6 +469,39 @@ impl Model {
         self.plan.as_ref()
     }
 
+    /// The next turn: the refusal's number or 0, and the count.
+    pub fn next(&self, who: u8, target: u8, length: u16, slot: u8) -> (u8, u8) {
+        let Some(plan) = &self.plan else {
+            return (20, 0);
+        };
+        if !plan.initiators().contains(&who) {
+            return (22, 0);
+        }
+        if length > 4_096 {
+            return (24, 0);
+        }
+        let mut stands: Vec<u8> = Vec::new();
+        for (&(other, stand), (span, targets)) in &plan.entries {
+            if other == who && targets.contains(&target) && plan.fits(who, *span, target, length) {
+                stands.push(stand);
+            }
+        }
+        if stands.is_empty() {
+            return (25, 0);
+        }
+        if slot > 63 {
+            return (33, 0);
+        }
+        let (mut here, mut count) = (slot, 0);
+        loop {
+            here = if here == 63 { 0 } else { here + 1 };
+            count += 1;
+            if stands.contains(&here) {
+                return (0, count);
+            }
+        }
+    }
+
     /// The answer, and the record bytes of a time-code.
     pub fn step(&mut self, event: Event, buffer: usize) -> (Answer, Vec<u8>) {
         let mut records = Vec::new();

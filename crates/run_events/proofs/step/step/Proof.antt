@@ -45,7 +45,7 @@ returns-2 c =
     let q = c .request in
     λ b f.
     by-request _ b (a .w) (a .event) (q .result) _ (a .last .now) (a .records .now) _ _ _ _ (c .before .before .before .event2 .given .1)
-    (q .ensures b (a .last .now) f _ (a .w))
+    (q .ensures b (a .spans .now) (a .last .now) f _ (a .w))
 
 returns-3 : tie.Need-returns-3
 returns-3 c =

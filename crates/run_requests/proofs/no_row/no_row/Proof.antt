@@ -1,21 +1,15 @@
 -- `no_row` meets its contract. Assumes nothing.
-use mathlib.Core.Path.{sym, _∙_}
-use borrow.Author.Tests.{not-true, not-false}
-use Rattle.run_requests.specs.NoRow.{noRow}
+use mathlib.Core.Path.{ap}
+use Rattle.rules_box.specs.declared.Answer.the-variants.{Refused}
 use borrow.Author.Needs.{needs}
 use Rattle.run_requests.proofs.no_row.no_row.Statement.{statement}
 use Rattle.run_requests.proofs.no_row.no_row.Tie as tie
 
-is-loaded-requires : tie.Need-is-loaded-requires
-is-loaded-requires c κs = search needs
+no-row-requires : tie.Need-no-row-requires
+no-row-requires c κs = search needs
 
 returns : tie.Need-returns
-unfolding noRow
-returns c = λ o t. rw (sym (c .before .is-loaded .ensures .0 o t) ∙ not-true _ (c .if1 .taken))
-
-returns-2 : tie.Need-returns-2
-unfolding noRow
-returns-2 c = λ o t. rw (sym (c .before .is-loaded .ensures .0 o t) ∙ not-false _ (c .if1 .left))
+returns c = λ o t. ap Refused (c .no-row .ensures o t)
 
 pub no-row-spec : {M : Type 1} → statement M
-no-row-spec = tie.close (tie.spec is-loaded-requires returns returns-2)
+no-row-spec = tie.close (tie.spec no-row-requires returns)

@@ -1,9 +1,10 @@
 -- `request` meets its contract. Assumes nothing.
+use mathlib.Core.Path.{sym, _∙_}
 use Prim.Native.Nat.{_+_, _-_, _*_}
 use native.Mathlib.Omega.{arith}
-use borrow.Author.Tests.{not-true, not-false}
 use Rattle.run_requests.proofs.request.Asks.{stranger, other-kind, beyond, barred, asks}
 use borrow.Author.Needs.{needs}
+use Rattle.memory_plan.specs.laws.Costs.{least-words}
 use Rattle.memory_plan.specs.laws.RowFor.{row-told, none-told, none-behind}
 use Rattle.run_requests.proofs.request.request.Statement.{statement}
 use Rattle.run_requests.proofs.request.request.Tie as tie
@@ -18,7 +19,7 @@ returns : tie.Need-returns
 returns c =
     let r = c .before .before .first-row in
     let a = c .before .before .before .before .args in
-    λ b last f room w.
+    λ b spans last f room w.
     stranger f room w (a .initiator) (a .target) (a .kind) (a .length) 8
     (λ size p ok rs ns. none-behind p ok size (a .rows .now) (a .numbers .now) rs ns (a .initiator) (r .result) (r .ensures) (c .before .if1 .taken)) (omega arith)
     (c .no-row .result) (c .no-row .ensures)
@@ -36,7 +37,7 @@ returns-2 : tie.Need-returns-2
 returns-2 c =
     let r = c .before .before .before .before .first-row in
     let a = c .before .before .before .before .before .before .args in
-    λ b last f room w.
+    λ b spans last f room w.
     stranger f room w (a .initiator) (a .target) (a .kind) (a .length) 8
     (λ size p ok rs ns. none-told p ok size (a .rows .now) (a .numbers .now) rs ns (a .initiator) (r .result) (r .ensures) (c .before .if2 .taken)) (omega arith)
     (c .no-row2 .result) (c .no-row2 .ensures)
@@ -45,44 +46,51 @@ returns-3 : tie.Need-returns-3
 returns-3 c =
     let r = c .before .before .before .before .first-row in
     let a = c .before .before .before .before .before .before .args in
-    λ b last f room w.
+    λ b spans last f room w.
     other-kind f room w (a .initiator) (a .target) (a .kind) (a .length) (r .result)
     (λ size p ok rs ns. row-told p ok size (a .rows .now) (a .numbers .now) rs ns (a .initiator) (r .result) (r .ensures) (c .before .if2 .left)) (omega arith) (c .if3 .taken)
 
-not-permitted-requires : tie.Need-not-permitted-requires
-not-permitted-requires c κs = search needs
+no-turn-requires : tie.Need-no-turn-requires
+no-turn-requires c κs = search needs
 
 returns-4 : tie.Need-returns-4
 returns-4 c =
     let s = c .before .before .before in
     let r = s .before .before .before .first-row in
     let a = s .before .before .before .before .before .args in
-    λ b last f room w.
+    λ b spans last f room w.
     beyond f room w (a .initiator) (a .target) (a .kind) (a .length) (r .result)
     (λ size p ok rs ns. row-told p ok size (a .rows .now) (a .numbers .now) rs ns (a .initiator) (r .result) (r .ensures) (s .if2 .left))
-    (omega arith) (omega arith) (c .before .if4 .taken) (c .not-permitted .result) (c .not-permitted .ensures)
+    (omega arith) (omega arith) (c .before .if4 .taken) (c .no-turn .result) (c .no-turn .ensures)
 
 least-span-requires : tie.Need-least-span-requires
 least-span-requires c κs = search needs
 
-may-start-requires : tie.Need-may-start-requires
-may-start-requires c κs = search needs
+turns-requires : tie.Need-turns-requires
+turns-requires c κs =
+    let r = c .before .before .before .before .before .before .first-row in
+    let a = c .before .before .before .before .before .before .before .before .args in
+    (search needs, search needs, omega (arith, c .least-span .ensures, least-words (a .numbers .now) (r .result) (a .target) (a .length)))
 
-not-permitted-requires-2 : tie.Need-not-permitted-requires-2
-not-permitted-requires-2 c κs = search needs
+is-empty-requires : tie.Need-is-empty-requires
+is-empty-requires c κs = search needs
+
+no-turn-requires-2 : tie.Need-no-turn-requires-2
+no-turn-requires-2 c κs = search needs
 
 returns-5 : tie.Need-returns-5
 returns-5 c =
-    let y = c .before .before .may-start in
-    let d = c .before .before .before in
+    let y = c .before .before in
+    let d = y .before .before in
+    let z = y .before .turns in
     let s = d .before .before .before in
     let r = s .before .before .before .first-row in
     let a = s .before .before .before .before .before .args in
-    λ b last f room w.
+    λ b spans last f room w.
     barred f room w (a .initiator) (a .target) (a .kind) (a .length) (r .result)
     (λ size p ok rs ns. row-told p ok size (a .rows .now) (a .numbers .now) rs ns (a .initiator) (r .result) (r .ensures) (s .if2 .left))
-    (omega arith) (omega arith) (d .before .if4 .left) (d .least-span .result) (d .least-span .ensures) (y .result) (y .ensures)
-    (not-true _ (c .before .if5 .taken)) (c .not-permitted2 .result) (c .not-permitted2 .ensures)
+    (omega arith) (omega arith) (d .before .if4 .left) (d .least-span .result) (d .least-span .ensures) (z .result) (search needs) (z .ensures)
+    (sym (y .is-empty .ensures) ∙ c .before .if5 .taken) (c .no-turn2 .result) (c .no-turn2 .ensures)
 
 mul-ask-row : tie.Need-mul-ask-row
 mul-ask-row c = search needs
@@ -114,17 +122,18 @@ same-length c = search needs
 returns-6 : tie.Need-returns-6
 returns-6 c =
     let m = c .before .before .ask-row in
-    let y = c .before .before .before .before .before .may-start in
-    let d = c .before .before .before .before .before .before in
+    let y = c .before .before .before .before .before in
+    let d = y .before .before in
+    let z = y .before .turns in
     let s = d .before .before .before in
     let r = s .before .before .before .first-row in
     let a = s .before .before .before .before .before .args in
     let whole = r .result * 12 + 12 - r .result * 12 in
-    λ b last f room w.
+    λ b spans last f room w.
     asks f room w (a .initiator) (a .target) (a .kind) (a .length) (r .result)
     (λ size p ok rs ns. row-told p ok size (a .rows .now) (a .numbers .now) rs ns (a .initiator) (r .result) (r .ensures) (s .if2 .left))
-    (omega arith) (omega arith) (d .before .if4 .left) (d .least-span .result) (d .least-span .ensures) (y .result) (y .ensures)
-    (not-false _ (c .before .before .before .before .if5 .left)) (m .result) whole (m .last .0) (omega arith) (m .ensures)
+    (omega arith) (omega arith) (d .before .if4 .left) (d .least-span .result) (d .least-span .ensures) (z .result) (search needs) (z .ensures)
+    (sym (y .is-empty .ensures) ∙ c .before .before .before .before .if5 .left) (m .result) whole (m .last .0) (omega arith) (m .ensures)
 
 pub request-spec : {M : Type 1} → statement M
 request-spec =
@@ -138,11 +147,12 @@ request-spec =
     no-row-requires-2
     returns-2
     returns-3
-    not-permitted-requires
+    no-turn-requires
     returns-4
     least-span-requires
-    may-start-requires
-    not-permitted-requires-2
+    turns-requires
+    is-empty-requires
+    no-turn-requires-2
     returns-5
     mul-ask-row
     mul-ask-row-2

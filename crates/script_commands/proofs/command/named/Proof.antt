@@ -90,9 +90,17 @@ returns-11 c =
     by-name (a .line .now) (a .end) (text "sheet2") ((t .before .same11 .ensures .0) (t .if11 .taken)) (c .numbered8 .ensures)
 
 returns-12 : tie.Need-returns-12
-unfolding text
+unfolding same text named commands
 returns-12 c =
-    let s11 = c .before in
+    let t = c .before .before in
+    let a = t .before .before .before .before .before .before .before .before .before .before .before .before .before .before .before .before .before .before .before .before .before .before .before .before .before .before .before .before .before .before .before .before .before .before .before .before .before .before .args in
+    by-name (a .line .now) (a .end) (text "next") ((t .before .same12 .ensures .0) (t .if12 .taken)) (c .numbered9 .ensures)
+
+returns-13 : tie.Need-returns-13
+unfolding text
+returns-13 c =
+    let s12 = c .before in
+    let s11 = s12 .before .before .before in
     let s10 = s11 .before .before .before in
     let s9 = s10 .before .before .before in
     let s8 = s9 .before .before .before in
@@ -109,7 +117,8 @@ returns-12 c =
     (same-says name (text "load") (s1 .same .ensures) ∙ s2 .before .before .if1 .left) (same-says name (text "clear") (s2 .same2 .ensures) ∙ s3 .before .before .if2 .left) (same-says name (text "tc") (s3 .same3 .ensures) ∙ s4 .before .before .if3 .left)
     (same-says name (text "req") (s4 .same4 .ensures) ∙ s5 .before .before .if4 .left) (same-says name (text "rep") (s5 .same5 .ensures) ∙ s6 .before .before .if5 .left) (same-says name (text "clk") (s6 .same6 .ensures) ∙ s7 .before .before .if6 .left)
     (same-says name (text "out") (s7 .same7 .ensures) ∙ s8 .before .before .if7 .left) (same-says name (text "wd") (s8 .same8 .ensures) ∙ s9 .before .before .if8 .left) (same-says name (text "setwd") (s9 .same9 .ensures) ∙ s10 .before .before .if9 .left)
-    (same-says name (text "sheet") (s10 .same10 .ensures) ∙ s11 .before .before .if10 .left) (same-says name (text "sheet2") (s11 .same11 .ensures) ∙ c .if11 .left)
+    (same-says name (text "sheet") (s10 .same10 .ensures) ∙ s11 .before .before .if10 .left) (same-says name (text "sheet2") (s11 .same11 .ensures) ∙ s12 .before .before .if11 .left)
+    (same-says name (text "next") (s12 .same12 .ensures) ∙ c .if12 .left)
 
 pub named-spec : {M : Type 1} → statement M
 unfolding mosts
@@ -169,4 +178,9 @@ named-spec =
     (λ c. search needs)
     (λ c κs. (c .before .before .before .before .before .before .before .before .before .before .before .before .before .before .before .before .before .before .before .before .before .before .before .before .before .before .before .before .before .before .before .before .before .before .before .before .pre, refl))
     returns-11
-    returns-12)
+    (λ c. search needs)
+    (λ c κs. search needs)
+    (λ c. search needs)
+    (λ c κs. (c .before .before .before .before .before .before .before .before .before .before .before .before .before .before .before .before .before .before .before .before .before .before .before .before .before .before .before .before .before .before .before .before .before .before .before .before .before .before .before .pre, refl))
+    returns-12
+    returns-13)

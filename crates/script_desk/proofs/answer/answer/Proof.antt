@@ -1,7 +1,7 @@
--- `desk::answer::answer` meets its contract: the line is one of the twelve commands. Assumes nothing.
+-- `desk::answer::answer` meets its contract: the line is one of the thirteen commands. Assumes nothing.
 use borrow.Author.Needs.{needs}
 use Rattle.rules_plan.specs.Print.{text}
-use Rattle.script_desk.proofs.answer.Replies.{skip, bad, load, clear, time-code, request, reply, reading, out, watchdog, set, sheet, load-within, records-within, out-within}
+use Rattle.script_desk.proofs.answer.Replies.{skip, bad, load, clear, time-code, request, reply, reading, out, watchdog, set, sheet, next, load-within, records-within, out-within}
 use Rattle.script_desk.proofs.answer.answer.Statement.{statement}
 use Rattle.script_desk.proofs.answer.answer.Tie as tie
 
@@ -117,6 +117,15 @@ sheet-requires c κs = search needs
 put-sheet-requires : tie.Need-put-sheet-requires
 put-sheet-requires c κs = search needs
 
+enum-known-command-9 : tie.Need-enum-known-command-9
+enum-known-command-9 c = search needs
+
+next-requires : tie.Need-next-requires
+next-requires c κs = search needs
+
+put-next-requires : tie.Need-put-next-requires
+put-next-requires c κs = search needs
+
 returns : tie.Need-returns
 returns c =
     let e = c in
@@ -203,6 +212,13 @@ returns-12 c =
     let a = m .before .before .args in
     sheet (a .line .now) (a .number) (m .command-of .ensures) _ (e .command8 .given .1) (c .before .before .sheet .ensures) (c .put-sheet .ensures)
 
+returns-13 : tie.Need-returns-13
+returns-13 c =
+    let e = c .before .before .before .before .before .before .before in
+    let m = e .before .before in
+    let a = m .before .before .args in
+    next (a .line .now) (a .number) (m .command-of .ensures) _ (e .command9 .given .1) (c .before .before .next .ensures) (c .put-next .ensures)
+
 pub answer-spec : {M : Type 1} → statement M
 answer-spec =
     tie.close
@@ -241,6 +257,9 @@ answer-spec =
     enum-known-command-8
     sheet-requires
     put-sheet-requires
+    enum-known-command-9
+    next-requires
+    put-next-requires
     returns
     returns-2
     returns-3
@@ -252,4 +271,5 @@ answer-spec =
     returns-9
     returns-10
     returns-11
-    returns-12)
+    returns-12
+    returns-13)
