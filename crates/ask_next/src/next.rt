@@ -12,7 +12,8 @@ use bitsets::least;
 use memory_plan::entry::least_span;
 use memory_plan::layout::*;
 use memory_plan::rows::first_row;
-use memory_plan::turns::turns;
+use memory_plan::turns::aimed_at;
+use memory_plan::turns::lasting;
 use rules_plan::Next;
 
 // How many slots on from a slot the next of a set is, "1 is the slot after a given one, 64 that slot again": the least of those behind the slot,
@@ -50,14 +51,15 @@ pub fn next(
             number: no_row(numbers),
         };
     }
-    // No entry has a target over 63.
-    if 64 <= target {
+    // A target that no entry has is told before its least span is worked out.
+    let aimed = aimed_at(aims, row, target);
+    if is_empty(aimed) {
         return Next::NoTurn {
             number: no_turn(length),
         };
     }
     let need = least_span(numbers, row, target, length);
-    let set = turns(aims, row, target, need);
+    let set = lasting(aims, row, aimed, need);
     if is_empty(set) {
         return Next::NoTurn {
             number: no_turn(length),

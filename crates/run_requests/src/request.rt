@@ -15,7 +15,8 @@ use bitsets::is_empty;
 use memory_plan::entry::least_span;
 use memory_plan::layout::*;
 use memory_plan::rows::first_row;
-use memory_plan::turns::turns;
+use memory_plan::turns::aimed_at;
+use memory_plan::turns::lasting;
 use memory_run::layout::*;
 use rules_box::Answer;
 
@@ -44,13 +45,14 @@ pub fn request(
     if 1 < kind {
         return Answer::Refused { number: 23 };
     }
-    // No entry has a target over 63.
-    if 64 <= target {
+    // A target that no entry has is told before its least span is worked out.
+    let aimed = aimed_at(aims, row, target);
+    if is_empty(aimed) {
         let number = no_turn(length);
         return Answer::Refused { number };
     }
     let need = least_span(numbers, row, target, length);
-    if is_empty(turns(aims, row, target, need)) {
+    if is_empty(lasting(aims, row, aimed, need)) {
         let number = no_turn(length);
         return Answer::Refused { number };
     }

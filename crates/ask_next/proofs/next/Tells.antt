@@ -2,7 +2,7 @@
 use mathlib.Core.Path.{_≡_, refl, sym, ap, _∙_}
 use mathlib.Core.List.{List}
 use mathlib.Core.Option.{Option, some, Option·getD}
-use mathlib.Core.Bool.{Bool, true, false, not, cond}
+use mathlib.Core.Bool.{Bool, true, false, not, _&&_, cond}
 use Prim.Native.Nat.{ℕ, _+_, _%_, _^_, _≤_, _<_}
 use lib.Dec.{ltb, eqb}
 use borrow.Author.Tests.{lt-ltb, le-ltb}
@@ -15,14 +15,14 @@ use Rattle.rules_plan.specs.declared.Next.the-variants.{NoTurn, Turn}
 use Rattle.rules_plan.specs.Plan.{Plan}
 use Rattle.rules_plan.specs.Meaning.{isInitiator, initiators, leastSpan, mayStart}
 use Rattle.rules_plan.specs.Next.{nextTurn, nextAnswer}
-use Rattle.rules_plan.specs.laws.Permitted.{permitted-short, never-beyond}
+use Rattle.rules_plan.specs.laws.Permitted.{permitted-short}
 use Rattle.rules_plan.specs.laws.Turns.{answered, next-answered}
 use Rattle.memory_plan.specs.Spans.{leastInWords}
-use Rattle.memory_plan.specs.Turns.{turnInWords}
+use Rattle.memory_plan.specs.Turns.{turnsIn, Aimed, longAt, turnInWords}
 use Rattle.memory_plan.specs.View.{planIn, Timed, Shown}
 use Rattle.memory_plan.specs.laws.Costs.{least-told}
 use Rattle.memory_plan.specs.laws.Found.{Rowed, is-initiator, plan-by-row, its-row, no-initiator}
-use Rattle.memory_plan.specs.laws.Turns.{may-told, next-told}
+use Rattle.memory_plan.specs.laws.Turns.{by-words, none-aimed, may-told, next-told}
 use Rattle.ask_next.specs.Refused.{noRow, noTurn}
 
 module _ {o : Option Plan} {rows spans aims numbers : List ℕ} (f : Shown o rows spans aims numbers) (i t n s : ℕ) (row : ℕ) (rowed : Rowed rows numbers i row) where
@@ -63,19 +63,24 @@ module _ {o : Option Plan} {rows spans aims numbers : List ℕ} (f : Shown o row
             case-of true = refl
             case-of false = refl
 
-    pub beyond : 64 ≤ t → (m : ℕ) → m ≡ noTurn n → Gives (NoTurn m)
-    beyond h = no-turn (never-beyond p (f .sound) i t n h)
+    at : atPlace row (initiators p) ≡ some i
+    at = its-row f i row rowed low
+
+    -- no entry has the target
+    pub unaimed : (aimed : ℕ) → Aimed aims row t aimed → aimed ≡ 0 → (m : ℕ) → m ≡ noTurn n → Gives (NoTurn m)
+    unaimed aimed told z = no-turn (none-aimed p (f .sound) row i at low t n aims (f .aims) aimed told z)
 
     module _ (low-target : t < 64) (need : ℕ) (words : need ≡ leastInWords numbers row t n)
-        (set : ℕ) (small : set < 2 ^ 64) (read : (v : ℕ) → member v set ≡ turnInWords aims row t need v) where
-      at : atPlace row (initiators p) ≡ some i
-      at = its-row f i row rowed low
+        (aimed : ℕ) (by-target : aimed ≡ turnsIn aims row t)
+        (set : ℕ) (small : set < 2 ^ 64) (read : (v : ℕ) → member v set ≡ (member v aimed && longAt aims row need v)) where
+      turns : (v : ℕ) → member v set ≡ turnInWords aims row t need v
+      turns = by-words aims row t need aimed by-target set read
 
       least : need ≡ leastSpan p i t n
       least = words ∙ least-told p _ numbers (f .timed .numbers) (f .sound) row i t at low-target n
 
       may : mayStart p (p .entries) i t n ≡ not (eqb set 0)
-      may = sym (may-told p (f .sound) row i at low t low-target n aims (f .aims) need least set small read)
+      may = sym (may-told p (f .sound) row i at low t low-target n aims (f .aims) need least set small turns)
 
       pub barred : eqb set 0 ≡ true → (m : ℕ) → m ≡ noTurn n → Gives (NoTurn m)
       barred h = no-turn (may ∙ ap not h)
@@ -92,5 +97,5 @@ module _ {o : Option Plan} {rows spans aims numbers : List ℕ} (f : Shown o row
 
         pub turn : s ≤ 63 → (c : ℕ) → c ≡ firstFrom 64 1 (λ (k : ℕ). member ((s + k) % 64) set) → Gives (Turn c)
         turn h c is =
-            ap Turn (is ∙ next-told p (f .sound) row i at low t low-target n aims (f .aims) need least set small read s)
+            ap Turn (is ∙ next-told p (f .sound) row i at low t low-target n aims (f .aims) need least set small turns s)
             ∙ by true true false true false there own short permitted (le-ltb 63 s h)

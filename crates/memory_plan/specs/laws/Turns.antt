@@ -2,8 +2,9 @@
 use mathlib.Core.Path.{_≡_, refl, sym, ap, _∙_, fun-ext}
 use mathlib.Core.List.{List, []}
 use mathlib.Core.Option.{Option, none, some}
-use mathlib.Core.Bool.{Bool, true, false, not, _&&_}
+use mathlib.Core.Bool.{Bool, true, false, not, _&&_, and-false}
 use Prim.Native.Nat.{ℕ, _+_, _-_, _%_, _^_, _≤_, _<_}
+use native.Mathlib.Decide.{decLt}
 use native.Mathlib.Omega.{arith}
 use lib.Dec.{leb, ltb, eqb}
 use borrow.Author.Tests.{ltb-false, leb-true, leb-false, lt-ltb, le-ltb, eq-eqb, ne-eqb}
@@ -21,9 +22,10 @@ use Rattle.rules_plan.specs.Next.{isTurn, slotAfter, nextTurn}
 use Rattle.rules_plan.specs.laws.Sound.{Sound}
 use Rattle.rules_plan.specs.laws.Spans.{fits-by-least, least-span-most}
 use Rattle.rules_plan.specs.laws.Runs.{entry-at, permits-fits}
+use Rattle.rules_plan.specs.laws.Permitted.{never-beyond}
 use Rattle.rules_plan.specs.laws.Turns.{turn-some, turn-none, turn-at, turn-low, may-start-turn}
 use Rattle.memory_plan.specs.Memory.{hasTarget, longerThan, slotsWith, aimsOf}
-use Rattle.memory_plan.specs.Turns.{turnsIn, longIn, turnInWords}
+use Rattle.memory_plan.specs.Turns.{turnsIn, longIn, Aimed, longAt, turnInWords}
 use Rattle.memory_plan.specs.laws.InRows.{of-row, turn-cell, long-cell}
 
 -- a member of the slots whose entry passes a test
@@ -45,6 +47,20 @@ some-member word small f is = go (anyBelow 64 f) refl
         let (v, _, t) = any-true 64 f h in
         ap not (ne-eqb word 0 (λ z. not-both (is v ∙ t) (ap (member v) z ∙ member-empty v))) ∙ sym h
     go false h = ap not (eq-eqb word 0 (no-members word small (λ k l. is k ∙ any-false 64 f h k l))) ∙ sym h
+
+-- what is aimed at is a target up to 63
+pub aimed-low : (aims : List ℕ) (r t slots : ℕ) → Aimed aims r t slots → (slots ≡ 0 → ⊥) → t < 64
+aimed-low aims r t slots a d = go (decLt t 64)
+  where
+    go : Dec (t < 64) → t < 64
+    go (yes l) = l
+    go (no l) = absurd (d (a .beyond (omega arith)))
+
+-- a set of turns, by the words that it was made of
+pub by-words : (aims : List ℕ) (r t need aimed : ℕ) → aimed ≡ turnsIn aims r t → (set : ℕ) → ((v : ℕ) → member v set ≡ (member v aimed && longAt aims r need v))
+    → (v : ℕ) → member v set ≡ turnInWords aims r t need v
+unfolding turnInWords
+by-words aims r t need aimed is set read v = read v ∙ ap (λ (w : ℕ). member v w && longAt aims r need v) is
 
 module _ (p : Plan) (ok : Sound p) (r i : ℕ) (row : atPlace r (initiators p) ≡ some i) (short : r < 8) (t : ℕ) (low : t < 64) (n : ℕ) where
   -- the entry at a slot has the target and is as long as the transaction needs
@@ -75,7 +91,7 @@ module _ (p : Plan) (ok : Sound p) (r i : ℕ) (row : atPlace r (initiators p) �
 
   module _ (aims : List ℕ) (held : aims ≡ aimsOf p) (need : ℕ) (is : need ≡ leastSpan p i t n) where
     pub turn-told : (v : ℕ) → turnInWords aims r t need v ≡ isTurn p (p .entries) i t n v
-    unfolding turnInWords
+    unfolding turnInWords longAt
     turn-told v = go (leb need 16) refl
       where
         es : List Entry
@@ -93,9 +109,9 @@ module _ (p : Plan) (ok : Sound p) (r i : ℕ) (row : atPlace r (initiators p) �
         both most true h = permitted-at need v is most (entryAt es i v) refl
         both most false h = sym (never-true _ (λ z. absurd (omega (arith, ltb-false v 64 h, turn-low p i t n ok v z))))
 
-        go : (x : Bool) → leb need 16 ≡ x → x && (member v (turnsIn aims r t) && member v (longIn aims r (need - 1))) ≡ isTurn p es i t n v
+        go : (x : Bool) → leb need 16 ≡ x → member v (turnsIn aims r t) && (x && member v (longIn aims r (need - 1))) ≡ isTurn p es i t n v
         go true h = let most = leb-true need 16 h in rw (aimed, long most) (both most (ltb v 64) refl)
-        go false h = sym (never-true _ (λ z. absurd (omega (arith, leb-false need 16 h, turn-needs v z))))
+        go false h = and-false (member v (turnsIn aims r t)) ∙ sym (never-true _ (λ z. absurd (omega (arith, leb-false need 16 h, turn-needs v z))))
 
     -- the set of the turns, as it is read: 25 asks whether it is empty, and the next turn is the next member
     module _ (word : ℕ) (fits′ : word < 2 ^ 64) (read : (v : ℕ) → member v word ≡ turnInWords aims r t need v) where
@@ -108,3 +124,18 @@ module _ (p : Plan) (ok : Sound p) (r i : ℕ) (row : atPlace r (initiators p) �
       pub next-told : (s : ℕ) → firstFrom 64 1 (λ (k : ℕ). member ((s + k) % 64) word) ≡ nextTurn p (p .entries) i t n s
       unfolding nextTurn slotAfter
       next-told s = ap (firstFrom 64 1) (fun-ext λ k. turn-member ((s + k) % 64))
+
+    -- where no entry has the target there is no turn
+    no-turns : turnsIn aims r t ≡ 0 → mayStart p (p .entries) i t n ≡ false
+    unfolding turnInWords
+    no-turns z =
+        sym (may-told 0 (omega arith) (λ v. member-empty v ∙ sym (ap (λ (w : ℕ). member v w && longAt aims r need v) z ∙ ap (λ (b : Bool). b && longAt aims r need v) (member-empty v))))
+
+-- and so of a target of any number
+pub none-aimed : (p : Plan) → Sound p → (r i : ℕ) → atPlace r (initiators p) ≡ some i → r < 8 → (t n : ℕ) (aims : List ℕ) → aims ≡ aimsOf p
+    → (slots : ℕ) → Aimed aims r t slots → slots ≡ 0 → mayStart p (p .entries) i t n ≡ false
+none-aimed p ok r i row short t n aims held slots a z = go (decLt t 64)
+  where
+    go : Dec (t < 64) → mayStart p (p .entries) i t n ≡ false
+    go (yes l) = no-turns p ok r i row short t l n aims held (leastSpan p i t n) refl (sym (a .within l) ∙ z)
+    go (no l) = never-beyond p ok i t n (omega arith)

@@ -2,7 +2,7 @@
 use mathlib.Core.Path.{_≡_, refl, sym, ap, _∙_}
 use mathlib.Core.List.{List, _++_}
 use mathlib.Core.Option.{Option, some}
-use mathlib.Core.Bool.{Bool, true, false, not, cond}
+use mathlib.Core.Bool.{Bool, true, false, not, _&&_, cond}
 use Prim.Native.Nat.{ℕ, _*_, _^_, _≤_, _<_}
 use lib.ListN.{take, drop}
 use lib.Dec.{eqb, ltb}
@@ -14,12 +14,12 @@ use Rattle.lists.specs.laws.Bools.{cond-cases}
 use Rattle.rules_plan.specs.Plan.{Plan}
 use Rattle.bitsets.specs.Set.{member}
 use Rattle.rules_plan.specs.Meaning.{isInitiator, initiators, leastSpan, mayStart}
-use Rattle.rules_plan.specs.laws.Permitted.{permitted-short, never-beyond}
+use Rattle.rules_plan.specs.laws.Permitted.{permitted-short}
 use Rattle.memory_plan.specs.Spans.{leastInWords}
 use Rattle.memory_plan.specs.View.{Timed, owner, ownerOf}
-use Rattle.memory_plan.specs.Turns.{turnInWords}
+use Rattle.memory_plan.specs.Turns.{turnsIn, Aimed, longAt}
 use Rattle.memory_plan.specs.laws.Costs.{least-told}
-use Rattle.memory_plan.specs.laws.Turns.{may-told}
+use Rattle.memory_plan.specs.laws.Turns.{by-words, none-aimed, may-told}
 use Rattle.rules_box.specs.declared.Event.the-variants.{Request}
 use Rattle.rules_box.specs.declared.Answer.{Answer}
 use Rattle.rules_box.specs.declared.Answer.the-variants.{Refused}
@@ -83,20 +83,22 @@ module _
             let some-row = cond-cases (λ (m : ℕ). eqb m 0 ≡ false) (ltb 4096 n) 24 25 (λ _. refl) (λ _. refl) in
             rw is (refuses room b w (Request i t k n) _ some-row (rw (there, own, le-ltb 1 k kind, may)) run last (f .runs))
 
-        -- no entry has such a target
-        pub beyond : 64 ≤ t → (m : ℕ) → m ≡ noTurn n → Gives (Refused m) run
-        beyond h = not-permitted (never-beyond (thePlan b) (f .fit .sound) i t n h)
+        -- no entry has the target
+        pub unaimed : (aimed : ℕ) → Aimed aims row t aimed → aimed ≡ 0 → (m : ℕ) → m ≡ noTurn n → Gives (Refused m) run
+        unfolding thePlan
+        unaimed aimed told z = not-permitted (none-aimed (thePlan b) (f .plan .sound) row i at low t n aims (f .plan .aims) aimed told z)
 
       -- the set of its turns is read off the summary: it is empty where no entry permits it
       module _ (kind : k ≤ 1) (low-target : t < 64) (need : ℕ) (words : need ≡ leastInWords numbers row t n)
-          (set : ℕ) (small : set < 2 ^ 64) (read : (v : ℕ) → member v set ≡ turnInWords aims row t need v) where
+          (aimed : ℕ) (by-target : aimed ≡ turnsIn aims row t)
+          (set : ℕ) (small : set < 2 ^ 64) (read : (v : ℕ) → member v set ≡ (member v aimed && longAt aims row need v)) where
         least : need ≡ leastSpan (thePlan b) i t n
         unfolding thePlan
         least = words ∙ least-told (thePlan b) _ numbers (f .plan .timed .numbers) (f .plan .sound) row i t at low-target n
 
         may : mayStart (thePlan b) ((thePlan b) .entries) i t n ≡ not (eqb set 0)
         unfolding thePlan
-        may = sym (may-told (thePlan b) (f .plan .sound) row i at low t low-target n aims (f .plan .aims) need least set small read)
+        may = sym (may-told (thePlan b) (f .plan .sound) row i at low t low-target n aims (f .plan .aims) need least set small (by-words aims row t need aimed by-target set read))
 
         pub barred : eqb set 0 ≡ true → (m : ℕ) → m ≡ noTurn n → Gives (Refused m) run
         barred h = not-permitted kind (may ∙ ap not h)
