@@ -4,21 +4,17 @@ use mathlib.Core.Logic.{_≢_}
 use mathlib.Core.List.{List, [], _∷_, _++_, map}
 use mathlib.Core.Option.{Option, none, some, Option·map}
 use mathlib.Core.Bool.{Bool, true, false, cond}
-use Prim.Native.Nat.{ℕ, _+_, _-_, _*_, _%_, _≤_, _<_}
+use Prim.Native.Nat.{ℕ, _+_, _-_, _*_, _%_}
 use native.Mathlib.Omega.{arith}
 use lib.ListN.{length, take, drop}
-use lib.Dec.{eqb, ltb, leb}
-use borrow.Author.Tests.{eqb-true, eqb-false, le-leb, lt-leb}
+use lib.Dec.{eqb, ltb}
+use borrow.Author.Tests.{eqb-false, le-leb, lt-leb}
 use Rattle.lists.specs.Place.{atPlace}
 use Rattle.lists.specs.laws.Bools.{not-both, none-some, some-some}
-use Rattle.lists.specs.laws.Place.{at-without, at-append}
-use Rattle.rules_plan.specs.declared.Next.{Next}
-use Rattle.rules_plan.specs.declared.Next.the-variants.{Turn}
 use Rattle.rules_plan.specs.Plan.{nth}
 use Rattle.rules_plan.specs.Meaning.{initiators}
 use Rattle.rules_plan.specs.Next.{slotAfter}
 use Rattle.rules_plan.specs.Promises.{AcceptedIsSound}
-use Rattle.rules_box.specs.declared.Event.{Event}
 use Rattle.rules_box.specs.declared.Event.the-variants.{Request}
 use Rattle.rules_box.specs.State.{Box, thePlan}
 use Rattle.rules_box.specs.Turn.{valueOf}
@@ -27,12 +23,12 @@ use Rattle.rules_box.specs.History.{offered, after, leaving, fate, hasStarted}
 use Rattle.rules_box.specs.Promises as box
 use Rattle.memory_run.specs.Run.{lastOf}
 use Rattle.box_calls.specs.Calls.{Memory, Came, by-event, Done, Follow, nothing, then}
-use Rattle.box_promises.specs.Words.{RowOf, waitingIn, lineIn, slotIn, memoryAfter, timeCodes, AllInSequence}
+use Rattle.box_promises.specs.Words.{waitingIn, lineIn, slotIn, memoryAfter}
 use Rattle.box_promises.specs.Promises.{HeldBy, Leaves, stays, moves, WaitsOn, still, through, NextOfTheRules, StartsAtItsTurn}
 use Rattle.box_promises.proofs.Held.{held}
-use Rattle.box_promises.proofs.Says.{says, last-word}
+use Rattle.box_promises.proofs.Says.{last-word}
 use Rattle.box_promises.proofs.Moves.{at-after, Moved, kept, gone, moved}
-use Rattle.box_promises.proofs.InTime.{offerOf, ticks-are, all-next, starts-in, Joining, joining}
+use Rattle.box_promises.proofs.InTime.{offerOf, ticks-are, all-next, starts-in, joining}
 
 -- nothing waits: the line has no word
 no-elements : {A : Type 0} (xs : List A) → length xs ≡ 0 → xs ≡ []

@@ -1,7 +1,7 @@
 // An entry in the summary of the plan: its slot is put to those of each of its targets, and to those of each span that it is no shorter than.
 ghost use mathlib.Core.Path.{_≡_};
 ghost use mathlib.Core.Bool.{false};
-ghost use Prim.Native.Nat.{ℕ, _≤_, _<_};
+ghost use Prim.Native.Nat.{_≤_, _<_};
 ghost use lib.ListN.{length};
 ghost use Rattle.lists.specs.Search.{any};
 ghost use Rattle.rules_plan.specs.Judge.{over63};

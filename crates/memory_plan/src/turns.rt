@@ -2,7 +2,6 @@
 ghost use mathlib.Core.Path.{_≡_};
 ghost use mathlib.Core.Bool.{_&&_};
 ghost use Prim.Native.Nat.{ℕ, _<_};
-ghost use lib.Dec.{leb};
 ghost use Rattle.bitsets.specs.Set.{member};
 ghost use Rattle.memory_plan.specs.Turns.{Aimed, longAt};
 use crate::layout::*;

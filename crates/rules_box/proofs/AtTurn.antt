@@ -8,7 +8,7 @@ use Prim.Native.Nat.{ℕ, suc, _+_, _≤_, _<_}
 use native.Mathlib.Omega.{arith}
 use lib.ListN.{length}
 use lib.Dec.{leb, eqb}
-use borrow.Author.Tests.{leb-true, leb-false, lt-leb, le-leb, le-ltb, ne-eqb, not-true, not-false}
+use borrow.Author.Tests.{leb-true, leb-false, lt-leb, le-leb, le-ltb, ne-eqb, not-false}
 use Rattle.lists.specs.Place.{atPlace}
 use Rattle.lists.specs.Rows.{testOf}
 use Rattle.lists.specs.Search.{isSome}
@@ -20,15 +20,14 @@ use Rattle.rules_plan.specs.Plan.{Plan}
 use Rattle.rules_plan.specs.Meaning.{isInitiator, mayStart}
 use Rattle.rules_plan.specs.Next.{isTurn, slotAfter, nextTurn, nextAnswer}
 use Rattle.rules_plan.specs.Promises.{AcceptedIsSound}
-use Rattle.rules_plan.specs.laws.Runs.{found-at}
-use Rattle.rules_plan.specs.laws.Turns.{turn-at, turn-low, some-turn, next-finds, next-now, next-on, answered, next-answered}
+use Rattle.rules_plan.specs.laws.Turns.{turn-at, turn-low, some-turn, next-finds, next-now, next-on, next-answered}
 use Rattle.rules_box.specs.declared.Event.{Event}
 use Rattle.rules_box.specs.declared.Event.the-variants.{TimeCode, Request, Reply, Reading}
 use Rattle.rules_box.specs.declared.Watchdog.{Watchdog}
 use Rattle.rules_box.specs.State as state
 use Rattle.rules_box.specs.State.{Box, noPlan, thePlan}
 use Rattle.rules_box.specs.Refuse.{refusal, refusals}
-use Rattle.rules_box.specs.Turn.{Start, inSequence, valueOf, allows, startOf}
+use Rattle.rules_box.specs.Turn.{inSequence, valueOf, allows, startOf}
 use Rattle.rules_box.specs.Step.{step, accepts, Outcome, withSide, ticked}
 use Rattle.rules_box.specs.History.{Offer, offered, after, isTick, isNext, ticks, allNext, Fate, starts, waits, fateBy, fate, hasStarted}
 use Rattle.rules_box.specs.Promises.{slotNow, StartsAtItsTurn, JoinsAsAsked}

@@ -14,7 +14,7 @@ use Rattle.rules_plan.specs.Next.{nextAnswer}
 use Rattle.rules_plan.specs.Judge.{judge}
 use Rattle.rules_plan.specs.Print.{text, line}
 use Rattle.rules_box.specs.declared.Event.{Event}
-use Rattle.rules_box.specs.declared.Event.the-variants.{TimeCode, Request, Reply, Reading}
+use Rattle.rules_box.specs.declared.Event.the-variants.{TimeCode, Request, Reply}
 use Rattle.rules_box.specs.declared.Answer.{Answer}
 use Rattle.rules_box.specs.declared.Answer.the-variants.{Refused, Recorded, Joined}
 use Rattle.rules_box.specs.declared.Watchdog.{Watchdog}

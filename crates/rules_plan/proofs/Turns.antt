@@ -1,6 +1,5 @@
 -- The next turn, against the paper's sentences.
-use mathlib.Core.Path.{_≡_, refl, sym, ap, _∙_}
-use mathlib.Core.Logic.{_↔_}
+use mathlib.Core.Path.{_≡_, refl, sym, _∙_}
 use mathlib.Core.List.{List}
 use mathlib.Core.Option.{some}
 use mathlib.Core.Bool.{Bool, true, false}
@@ -16,7 +15,6 @@ use Rattle.rules_plan.specs.Plan.{Entry, Plan}
 use Rattle.rules_plan.specs.Meaning.{isInitiator, mayStart}
 use Rattle.rules_plan.specs.Next.{isTurn, slotAfter, nextTurn, nextAnswer}
 use Rattle.rules_plan.specs.Promises.{TurnAt, NextIs, NextAsWorded, NoTurnAsWorded}
-use Rattle.rules_plan.specs.laws.Sound.{Sound}
 use Rattle.rules_plan.specs.laws.Permitted.{permitted-short}
 use Rattle.rules_plan.specs.laws.Turns.{turn-at, turn-low, turn-starts, some-turn, next-finds, next-is, next-most, answered, next-answered}
 

@@ -18,7 +18,7 @@ use Rattle.lists.specs.laws.Bools.{both-true, true-both, never-true, not-both, 
 use Rattle.lists.specs.laws.Search.{isIn-elim, any-intro, find-some}
 use Rattle.lists.specs.laws.More.{find-more, find-same}
 use Rattle.bitsets.specs.Set.{member, alone, packed}
-use Rattle.bitsets.specs.Laws.{same-members, member-empty}
+use Rattle.bitsets.specs.Laws.{same-members}
 use Rattle.bitsets.specs.Packed.{packed-lt, packed-is, member-packed-below}
 use Rattle.rules_plan.specs.Plan.{nth, Entry, Plan, entry, grow}
 use Rattle.rules_plan.specs.Meaning.{isInitiator, initiators, standsAt, entryAt}

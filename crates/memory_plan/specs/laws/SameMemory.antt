@@ -6,7 +6,7 @@ use mathlib.Core.Option.{Option, none, some}
 use mathlib.Core.Bool.{Bool, false, cond}
 use Prim.Native.Nat.{ℕ, _/_, _%_, min, max}
 use native.Mathlib.Omega.{arith}
-use lib.Dec.{ltb, eqb}
+use lib.Dec.{eqb}
 use Rattle.lists.specs.Search.{repeats, isIn}
 use Rattle.lists.specs.Place.{atPlace}
 use Rattle.lists.specs.Cells.{cells, padded}
@@ -39,7 +39,7 @@ same-hasTarget t e f h = any-shuffled (eqb t) (eq-respects (eqb t)) (h .targets)
 
 same-longerThan : (k : ℕ) → Respects SameEntry (λ (e : Entry). longerThan k (some e))
 unfolding longerThan
-same-longerThan k e f h = ap (ltb k) (h .span)
+same-longerThan k e f h = rw (h .span)
 
 same-spanOf : Respects SameEntry (λ (e : Entry). spanOf (some e))
 unfolding spanOf

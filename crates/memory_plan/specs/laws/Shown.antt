@@ -1,7 +1,6 @@
 -- Plan memory that came from a clear or a load, as events and questions read it.
 use mathlib.Core.List.{List}
 use mathlib.Core.Option.{Option, none, some}
-use mathlib.Core.Path.{_≡_}
 use Prim.Native.Nat.{ℕ}
 use Rattle.lists.specs.laws.Bools.{none-some, some-some}
 use Rattle.rules_plan.specs.Plan.{Plan}

@@ -16,7 +16,7 @@ use Rattle.lists.specs.laws.Numbers.{any-true, any-false}
 use Rattle.bitsets.specs.Set.{member}
 use Rattle.bitsets.specs.Laws.{member-empty, no-members}
 use Rattle.bitsets.specs.Packed.{member-packed, packed-is}
-use Rattle.rules_plan.specs.Plan.{nth, Entry, Plan}
+use Rattle.rules_plan.specs.Plan.{Entry, Plan}
 use Rattle.rules_plan.specs.Meaning.{initiators, fits, permits, leastSpan, entryAt, mayStart}
 use Rattle.rules_plan.specs.Next.{isTurn, slotAfter, nextTurn}
 use Rattle.rules_plan.specs.laws.Sound.{Sound}

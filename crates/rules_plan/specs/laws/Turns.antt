@@ -2,7 +2,7 @@
 -- proves `turn-at` again; all else rests on it.
 use mathlib.Core.Path.{_≡_, refl, sym, ap, ap₂, _∙_}
 use mathlib.Core.Logic.{_↔_, by-cases}
-use mathlib.Core.List.{List, List·Memᴰ}
+use mathlib.Core.List.{List}
 use mathlib.Core.Option.{Option, none, some, Option·getD}
 use mathlib.Core.Bool.{Bool, true, false, cond}
 use Prim.Native.Nat.{ℕ, suc, _+_, _-_, _%_, _≤_, _<_}
@@ -10,7 +10,7 @@ use native.Mathlib.Decide.{decLt}
 use native.Mathlib.Omega.{arith}
 use lib.Dec.{ltb, eqb}
 use borrow.Author.Tests.{eq-eqb}
-use Rattle.lists.specs.Numbers.{anyBelow, firstFrom}
+use Rattle.lists.specs.Numbers.{anyBelow}
 use Rattle.lists.specs.laws.Bools.{not-both, true-both, same-test}
 use Rattle.lists.specs.laws.Search.{any-intro}
 use Rattle.lists.specs.laws.Numbers.{Finds, any-true, first-from}
