@@ -1,6 +1,7 @@
 //! The text form of a plan: one item a line, `#` starts a comment. A line becomes the bytes of its field, whatever its numbers say.
 
 use crate::layout::{printable, shortened};
+use crate::names::Names;
 
 /// A kind of line: its first word, how many words follow, and the form as a person writes it.
 struct Form {
@@ -93,13 +94,16 @@ pub struct Compiled {
     pub bytes: Vec<u8>,
     /// Of each line that made bytes: the offset of its first, its number, its text.
     lines: Vec<(usize, usize, String)>,
+    pub names: Names,
 }
 
 impl Compiled {
     /// Bytes that no text made.
     pub fn of_file(bytes: Vec<u8>) -> Self {
-        let lines = Vec::new();
-        Self { bytes, lines }
+        Self {
+            bytes,
+            ..Self::default()
+        }
     }
 
     /// The number and the text of the line that made the byte at an offset.

@@ -12,6 +12,7 @@ pub mod form;
 pub mod grid;
 pub mod judge;
 pub mod layout;
+pub mod names;
 pub mod network;
 pub mod no_entry;
 pub mod page;
