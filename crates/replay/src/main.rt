@@ -1,5 +1,5 @@
 // replay: reads a script of commands from standard input and prints an answer for each line of it.
-// Answers are written before more input is waited for. A read error is said on standard error, after the answers so far.
+// Answers are written before more input is waited for. A read or a write that fails is said on standard error, after the answers so far.
 ghost use mathlib.Core.Path.{_≡_};
 ghost use Prim.Native.Nat.{_≤_};
 ghost use lib.ListN.{length, replicate};
@@ -297,5 +297,11 @@ fn main() {
     );
     if end.unread {
         io::write_all(STDERR_FILENO, b"replay: standard input could not be read\n");
+    }
+    if end.desk.failed {
+        io::write_all(
+            STDERR_FILENO,
+            b"replay: standard output could not be written\n",
+        );
     }
 }

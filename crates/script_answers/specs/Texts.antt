@@ -1,7 +1,7 @@
 -- The lines that a script's commands print, as REPLAY.md's table has them.
 use mathlib.Core.Path.{_≡_}
 use mathlib.Core.List.{List, [], _∷_, _++_}
-use mathlib.Core.Bool.{true, false, cond}
+use mathlib.Core.Bool.{Bool, true, false, cond}
 use Prim.Native.Nat.{ℕ, _*_}
 use lib.ListN.{length, getD, take, drop}
 use lib.Dec.{eqb}
@@ -64,6 +64,10 @@ sheetLine s = numbersLine (take 2 (sheetNumbers s))
 -- what the question for the next turn prints: "N COUNT"
 unfoldable pub nextLine : Next → List ℕ
 nextLine n = numbersLine (nextNumbers n)
+
+-- what a question of yes or no prints: "1 or 0"
+unfoldable pub flagLine : Bool → List ℕ
+flagLine b = ended (cond b (text "1") (text "0"))
 
 -- a buffer with a line at its front: the line's length, and the rest of the buffer as it was
 pub record Prints (line before after : List ℕ) (end : ℕ) : Type 0 where

@@ -2,7 +2,7 @@
 ghost use mathlib.Core.Path.{_≡_};
 ghost use Prim.Native.Nat.{_*_, _≤_};
 ghost use lib.ListN.{length};
-ghost use Rattle.script_answers.specs.Texts.{ended, errorLine, numbersLine, bytesLine, eventLine, outLine, yesOrNo, watchdogLine, sheetLine, nextLine, Prints};
+ghost use Rattle.script_answers.specs.Texts.{ended, errorLine, numbersLine, bytesLine, eventLine, outLine, yesOrNo, watchdogLine, sheetLine, nextLine, flagLine, Prints};
 ghost use Rattle.rules_plan.specs.Copy.{sized};
 ghost use Rattle.rules_box.specs.Answer.{Values};
 ghost use Rattle.rules_box.specs.Refuse.{recordSize};
@@ -112,6 +112,16 @@ pub fn put_word(out: &mut [u8; 65600], word: &[u8]) -> usize
 {
     let a = put(out, 0, word);
     put(out, a, b"\n")
+}
+
+// The line of a question of yes or no.
+pub fn put_flag(out: &mut [u8; 65600], flag: bool) -> usize
+    ensures { λ r. ⌜ Prints (flagLine flag) (now (out .entry)) (now (out .exit)) r ⌝ }
+{
+    if flag {
+        return put_word(out, b"1");
+    }
+    put_word(out, b"0")
 }
 
 // The line of a plan written out, by the answer and the buffer after it.

@@ -4,7 +4,7 @@ use mathlib.Core.Path.{_≡_}
 use mathlib.Core.List.{List, [], _∷_, map}
 use Rattle.rules_plan.specs.Print.{text}
 use Rattle.script_commands.specs.declared.command.Command.{Command}
-use Rattle.script_commands.specs.declared.command.Command.the-variants.{Skip, Bad, Load, Clear, TimeCode, Request, Reply, Reading, Out, Watchdog, SetWatchdog, Sheet, Next}
+use Rattle.script_commands.specs.declared.command.Command.the-variants.{Skip, Bad, Load, Clear, TimeCode, Request, Reply, Reading, Out, Watchdog, SetWatchdog, Sheet, Next, Blank, Holds}
 use Rattle.script_commands.specs.Script.{commandOf}
 
 unfoldable pub samples : List (String × Command)
@@ -65,12 +65,22 @@ samples =
     ∷ ("next 1 3 256", Bad)
     ∷ ("next 1 3 256 63 0", Bad)
     ∷ ("nex 1 3 256 63", Bad)
+    ∷ ("blank", Blank)
+    ∷ ("blank 0", Bad)
+    ∷ ("blank ", Bad)
     -- the bytes
     ∷ ("load -", Load 5)
     ∷ ("load 5", Bad)
     ∷ ("load 5A", Bad)
     ∷ ("load 5g", Bad)
     ∷ ("load 5a ", Bad)
+    ∷ ("holds 0500080000005a0000006e", Holds 6)
+    ∷ ("holds -", Holds 6)
+    ∷ ("holds", Bad)
+    ∷ ("holds 5", Bad)
+    ∷ ("holds 5A", Bad)
+    ∷ ("holds 5a 5a", Bad)
+    ∷ ("hold 5a", Bad)
     ∷ []
 
 -- every line is the command beside it

@@ -11,7 +11,7 @@ use Rattle.script_hex.specs.Hex.{bytesOf}
 use Rattle.script_commands.specs.declared.command.Kind.{Kind}
 use Rattle.script_commands.specs.declared.command.Kind.the-variants as kind
 use Rattle.script_commands.specs.declared.command.Command.{Command}
-use Rattle.script_commands.specs.declared.command.Command.the-variants.{Skip, Bad, Load, Clear, TimeCode, Request, Reply, Reading, Out, Watchdog, SetWatchdog, Sheet, Next}
+use Rattle.script_commands.specs.declared.command.Command.the-variants.{Skip, Bad, Load, Clear, TimeCode, Request, Reply, Reading, Out, Watchdog, SetWatchdog, Sheet, Next, Blank, Holds}
 
 -- the greatest numbers that may stand behind a command's name, and the command that they make
 unfoldable pub mosts : Kind → List ℕ
@@ -48,10 +48,10 @@ made kind.Next ns = Next (getD ns 0 0) (getD ns 1 0) (getD ns 2 0) (getD ns 3 0)
 unfoldable pub numbered : Kind → List (List ℕ) → Command
 numbered k ws = elim (numbersOf (mosts k) ws) [ none ↦ Bad | some ns ↦ made k ns ]
 
-unfoldable pub load : List (List ℕ) → Command
-load [] = Bad
-load (w ∷ []) = elim (bytesOf w) [ none ↦ Bad | some bytes ↦ Load 5 ]
-load (w ∷ v ∷ vs) = Bad
+unfoldable pub withBytes : Command → List (List ℕ) → Command
+withBytes c [] = Bad
+withBytes c (w ∷ []) = elim (bytesOf w) [ none ↦ Bad | some bytes ↦ c ]
+withBytes c (w ∷ v ∷ vs) = Bad
 
 unfoldable pub alone : Command → List (List ℕ) → Command
 alone c [] = c
@@ -62,7 +62,7 @@ Row = List ℕ × (List (List ℕ) → Command)
 
 unfoldable pub commands : List Row
 commands =
-    (text "load", load)
+    (text "load", withBytes (Load 5))
     ∷ (text "clear", alone Clear)
     ∷ (text "tc", numbered kind.TimeCode)
     ∷ (text "req", numbered kind.Request)
@@ -74,6 +74,8 @@ commands =
     ∷ (text "sheet", numbered kind.Sheet)
     ∷ (text "sheet2", numbered kind.SheetBoth)
     ∷ (text "next", numbered kind.Next)
+    ∷ (text "blank", alone Blank)
+    ∷ (text "holds", withBytes (Holds 6))
     ∷ []
 
 unfoldable pub named : List Row → List ℕ → List (List ℕ) → Command

@@ -3,7 +3,7 @@ ghost use mathlib.Core.Path.{_≡_};
 ghost use Prim.Native.Nat.{_≤_};
 ghost use lib.ListN.{length, take, drop};
 ghost use Rattle.script_words.specs.Reading.{behindWord};
-ghost use Rattle.script_commands.specs.Script.{mosts, numbered, load, alone, commands, named, commandOf};
+ghost use Rattle.script_commands.specs.Script.{mosts, numbered, withBytes, alone, commands, named, commandOf};
 use lists::bytes::same;
 use script_hex::is_bytes;
 use script_words::numbers;
@@ -66,6 +66,11 @@ pub enum Command {
         length: u16,
         slot: u8,
     },
+    Blank,
+    // As for a load.
+    Holds {
+        at: usize,
+    },
 }
 
 // "R 0 to 255, S, D 0 to 65,535, latencies 0 to 4,294,967,295"
@@ -104,10 +109,10 @@ enum Kind {
     Next,
 }
 
-// "load HEX"
-fn load(line: &[u8], end: usize) -> Command
+// A command that is its name and one byte string: "load HEX", "holds HEX".
+fn with_bytes(line: &[u8], end: usize, command: Command) -> Command
     requires { ⌜ end ≤ length (now line) ⌝ }
-    ensures { λ r. ⌜ r ≡ load (behindWord (drop end (now (line .entry)))) ⌝ }
+    ensures { λ r. ⌜ r ≡ withBytes command (behindWord (drop end (now (line .entry)))) ⌝ }
 {
     if end == line.len() {
         return Command::Bad;
@@ -120,7 +125,7 @@ fn load(line: &[u8], end: usize) -> Command
     if !is_bytes(word) {
         return Command::Bad;
     }
-    Command::Load { at: 5 }
+    command
 }
 
 // A command that is its name and no word more.
@@ -208,7 +213,7 @@ fn named(line: &[u8], end: usize) -> Command
 {
     let name = &line[..end];
     if same(name, b"load") {
-        return load(line, end);
+        return with_bytes(line, end, Command::Load { at: 5 });
     }
     if same(name, b"clear") {
         return alone(line, end, Command::Clear);
@@ -242,6 +247,12 @@ fn named(line: &[u8], end: usize) -> Command
     }
     if same(name, b"next") {
         return numbered(line, end, &[255, 255, 65_535, 255], Kind::Next);
+    }
+    if same(name, b"blank") {
+        return alone(line, end, Command::Blank);
+    }
+    if same(name, b"holds") {
+        return with_bytes(line, end, Command::Holds { at: 6 });
     }
     Command::Bad
 }

@@ -2,6 +2,8 @@
 use mathlib.Core.Path.{_≡_}
 use mathlib.Core.List.{List, []}
 use mathlib.Core.Option.{Option, some}
+use mathlib.Core.Bool.{Bool, true}
+use mathlib.Core.Logic.{_↔_}
 use Prim.Native.Nat.{ℕ}
 use lib.ListN.{drop, replicate}
 use Rattle.rules_plan.specs.Plan.{Plan}
@@ -13,6 +15,7 @@ use Rattle.rules_plan.specs.Sheet.{sheetAnswer}
 use Rattle.rules_plan.specs.Next.{nextAnswer}
 use Rattle.time_sheet.specs.Paced.{paced}
 use Rattle.memory_plan.specs.PlanHeld.{PlanHeld}
+use Rattle.load_plan.specs.Load.{HoldsPlanOf}
 use Rattle.rules_box.specs.declared.Event.{Event}
 use Rattle.rules_box.specs.declared.Event.the-variants as event
 use Rattle.rules_box.specs.declared.Answer.{Answer}
@@ -21,8 +24,8 @@ use Rattle.rules_box.specs.Answer.{values}
 use Rattle.box_calls.specs.Calls.{Memory, ClearLeaves, LoadLeaves, Lent, StepLeaves}
 use Rattle.script_hex.specs.Hex.{bytesOf}
 use Rattle.script_commands.specs.declared.command.Command.{Command}
-use Rattle.script_commands.specs.declared.command.Command.the-variants.{Skip, Bad, Load, Clear, TimeCode, Request, Reply, Reading, Out, Watchdog, SetWatchdog, Sheet, Next}
-use Rattle.script_answers.specs.Texts.{ended, errorLine, eventLine, outLine, watchdogLine, sheetLine, nextLine, Prints}
+use Rattle.script_commands.specs.declared.command.Command.the-variants.{Skip, Bad, Load, Clear, TimeCode, Request, Reply, Reading, Out, Watchdog, SetWatchdog, Sheet, Next, Blank, Holds}
+use Rattle.script_answers.specs.Texts.{ended, errorLine, eventLine, outLine, watchdogLine, sheetLine, nextLine, flagLine, Prints}
 
 -- what is kept between commands: "The program keeps the five numbers between commands, as a box's caller does."
 pub record Kept : Type 0 where
@@ -61,6 +64,16 @@ WrittenOut room m printed = (o : Option Plan) → HeldIn m o → printed ≡ out
 abbrev pub NextAsked : (i t n s : ℕ) → Memory → List ℕ → Type 0
 NextAsked i t n s m printed = (o : Option Plan) → HeldIn m o → printed ≡ nextLine (nextAnswer o i t n s)
 
+-- a question of yes or no: 1 exactly where it is so
+pub record Says (Fact : Type 0) (printed : List ℕ) : Type 0 where
+  pub flag : Bool
+  pub exactly : (flag ≡ true) ↔ Fact
+  pub prints : printed ≡ flagLine flag
+
+-- memory is that of a file's plan
+abbrev pub HasPlanOf : List ℕ → Memory → Type 0
+HasPlanOf file m = HoldsPlanOf file (m .sets) (m .ends) (m .rows) (m .reach) (m .paths) (m .spans) (m .aims) (m .numbers)
+
 -- "A line that is none of these … prints `ERROR line N` … and changes nothing."
 unfoldable pub Replied : Command → List ℕ → ℕ → Kept → Kept → List ℕ → Type 0
 Replied Skip line n before after printed = (after ≡ before) × (printed ≡ [])
@@ -77,6 +90,9 @@ Replied (SetWatchdog last seen reported least greatest) line n before after prin
     (after ≡ kept (before .memory) (fiveOf last seen reported least greatest)) × (printed ≡ ended (text "OK"))
 Replied (Sheet there home s size a d f g) line n before after printed = (after ≡ before) × (printed ≡ sheetLine (sheetAnswer (paced s a d f g) there home size))
 Replied (Next i t size s) line n before after printed = (after ≡ before) × NextAsked i t size s (before .memory) printed
+Replied Blank line n before after printed = (after ≡ before) × Says (ClearLeaves (before .memory) (before .five)) printed
+Replied (Holds at) line n before after printed =
+    (after ≡ before) × (file : List ℕ) × (bytesOf (drop at line) ≡ some file) × Says (HasPlanOf file (before .memory)) printed
 
 -- what is printed stands at the front of a buffer
 pub record Answers (Told : List ℕ → Type 0) (before after : List ℕ) (end : ℕ) : Type 0 where

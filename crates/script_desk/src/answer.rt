@@ -4,11 +4,14 @@ ghost use Prim.Native.Nat.{ℕ, _≤_};
 ghost use lib.ListN.{length, replicate};
 ghost use mathlib.Core.List.{List, []};
 ghost use Rattle.box_calls.specs.Calls.{memory, lentIn, leftIn};
+ghost use Rattle.load_plan.specs.Load.{HoldsPlanOf};
+ghost use Rattle.memory_plan.specs.Lent.{atEntry};
 ghost use Rattle.script_hex.specs.Hex.{decoded};
 ghost use Rattle.script_commands.specs.Script.{commandOf};
 ghost use Rattle.script_answers.specs.Texts.{overLongLine, Prints};
-ghost use Rattle.script_desk.specs.Replay.{fiveOf, kept, Loaded, Stepped, WrittenOut, Replied, Answers};
+ghost use Rattle.script_desk.specs.Replay.{fiveOf, kept, Loaded, Stepped, WrittenOut, Says, Replied, Answers};
 use ask_next::next::next;
+use box_blank::is_blank;
 use bytes_put::put;
 use memory_plan::layout::*;
 use memory_run::layout::*;
@@ -19,6 +22,7 @@ use run_events::values::values_of;
 use script_answers::texts::put_copied;
 use script_answers::texts::put_error;
 use script_answers::texts::put_event;
+use script_answers::texts::put_flag;
 use script_answers::texts::put_next;
 use script_answers::texts::put_sheet;
 use script_answers::texts::put_watchdog;
@@ -228,6 +232,53 @@ fn write_out(
     put_copied(out, copied, &buffer[..room])
 }
 
+// Whether the box holds the plan of a byte string, which is read into memory beside the box's.
+fn holds(
+    word: &[u8],
+    sets: &Sets,
+    ends: &Ends,
+    rows: &Rows,
+    reach: &Reach,
+    paths: &Paths,
+    spans: &Spans,
+    aims: &Aims,
+    numbers: &Numbers,
+    out: &mut [u8; 65600],
+) -> usize
+    ensures { λ r. ⌜ Answers (Says (atEntry (HoldsPlanOf (decoded 16_400 (now (word .entry)))) sets ends rows reach paths spans aims numbers)) (now (out .entry)) (now (out .exit)) r ⌝ }
+{
+    let mut file = file_room();
+    let size = decode(word, &mut file);
+    let mut other_sets = [0u64; SETS];
+    let mut other_ends = [0u8; ENDS];
+    let mut other_rows = [0u8; ROWS];
+    let mut other_reach = [0u64; ROWS];
+    let mut other_paths = [0u8; PATH_BYTES];
+    let mut other_spans = [0u8; CELLS];
+    let mut other_aims = [0u64; AIMS];
+    let mut other_numbers = [0u32; NUMBERS];
+    let held = box_holds::holds(
+        &file[..size],
+        sets,
+        ends,
+        rows,
+        reach,
+        paths,
+        spans,
+        aims,
+        numbers,
+        &mut other_sets,
+        &mut other_ends,
+        &mut other_rows,
+        &mut other_reach,
+        &mut other_paths,
+        &mut other_spans,
+        &mut other_aims,
+        &mut other_numbers,
+    );
+    put_flag(out, held)
+}
+
 // A line of which only the front is there, because it is longer than its reader takes: what it prints stands at the front of out.
 pub fn over_long(line: &[u8], number: u64, out: &mut [u8; 65600]) -> usize
     ensures { λ r. ⌜ Prints (overLongLine (now (line .entry)) number) (now (out .entry)) (now (out .exit)) r ⌝ }
@@ -412,6 +463,39 @@ pub fn answer(
         } => {
             let turn = next(rows, aims, numbers, initiator, target, length, slot);
             let end = put_next(out, turn);
+            Answered { end, watchdog }
+        }
+        Command::Blank => {
+            let blank = is_blank(
+                sets,
+                ends,
+                rows,
+                reach,
+                paths,
+                spans,
+                aims,
+                numbers,
+                run,
+                last,
+                watchdog,
+            );
+            let end = put_flag(out, blank);
+            Answered { end, watchdog }
+        }
+        Command::Holds { at } => {
+            let word = &line[at..];
+            let end = holds(
+                word,
+                sets,
+                ends,
+                rows,
+                reach,
+                paths,
+                spans,
+                aims,
+                numbers,
+                out,
+            );
             Answered { end, watchdog }
         }
     }

@@ -1,5 +1,6 @@
 // verdict: reads a plan from standard input to its end and prints its verdict, one line.
-// A read error is said on standard error, and no verdict is printed.
+// A read error is said on standard error, and no verdict is printed. So is a line that cannot be written, and an input that
+// begins with no tag, which is text or another file by mistake.
 ghost use mathlib.Core.Path.{_≡_};
 ghost use mathlib.Core.List.{_++_};
 ghost use Prim.Native.Nat.{_≤_};
@@ -73,6 +74,22 @@ fn line_of(file: &[u8], out: &mut [u8; 40]) -> usize
     print_verdict(out, verdict)
 }
 
+// Says on standard error what a person should know beside the verdict. A plan file begins with a tag, 01 to 07.
+fn tell(first: u8, written: bool) {
+    if !written {
+        io::write_all(
+            STDERR_FILENO,
+            b"verdict: standard output could not be written\n",
+        );
+    }
+    if first > 7 {
+        io::write_all(
+            STDERR_FILENO,
+            b"verdict: this begins with no tag of a plan file; of a plan in text, spwd-compile makes the file\n",
+        );
+    }
+}
+
 // One byte more than a plan may have is read, so that a longer input is judged as too long.
 fn main() {
     let mut buf = [0u8; 16385];
@@ -87,5 +104,6 @@ fn main() {
     let n = input.len;
     let mut out = [0u8; 40];
     let k = line_of(&buf[..n], &mut out);
-    io::write_all(STDOUT_FILENO, &out[..k]);
+    let written = io::write_all(STDOUT_FILENO, &out[..k]);
+    tell(buf[0], written);
 }

@@ -17,8 +17,8 @@ use Rattle.script_hex.specs.Hex.{bytesOf}
 use Rattle.script_commands.specs.declared.command.Kind.{Kind}
 use Rattle.script_commands.specs.declared.command.Kind.the-variants as kind
 use Rattle.script_commands.specs.declared.command.Command.{Command}
-use Rattle.script_commands.specs.declared.command.Command.the-variants.{Bad, Load}
-use Rattle.script_commands.specs.Script.{mosts, made, numbered, load, alone}
+use Rattle.script_commands.specs.declared.command.Command.the-variants.{Bad}
+use Rattle.script_commands.specs.Script.{mosts, made, numbered, withBytes, alone}
 
 -- a command that is its name
 pub no-words : (c : Command) (line : List ℕ) (end : ℕ) → end ≡ length line → c ≡ alone c (behindWord (drop end line))
@@ -33,35 +33,36 @@ some-words c line end h = go (behindWord (drop end line)) (left-over line end h)
     go [] e = none-some (sym e)
     go (w ∷ ws) e = refl
 
--- `load`
-pub load-nothing : (line : List ℕ) (end : ℕ) → end ≡ length line → Bad ≡ load (behindWord (drop end line))
-unfolding load behindWord
-load-nothing line end e = rw (drop-of-length-le line {i = end} (omega arith))
+-- a command with a byte string
+module _ (c : Command) where
+  pub bytes-missing : (line : List ℕ) (end : ℕ) → end ≡ length line → Bad ≡ withBytes c (behindWord (drop end line))
+  unfolding withBytes behindWord
+  bytes-missing line end e = rw (drop-of-length-le line {i = end} (omega arith))
 
-module _ (line s : List ℕ) (end size : ℕ) (h : end < length line) (e : s ≡ drop (end + 1) line) (w : WordEnds s size) where
-  pub load-more : (size ≡ length s → ⊥) → Bad ≡ load (behindWord (drop end line))
-  unfolding load behindWord inFront
-  load-more k =
-      rw (more-words line s end size h e w, drop-cons line (end + 1 + size) 0 (omega (arith, w .within, ap length e, length-drop (end + 1) line)), behindWord)
-      (rw (in-word-begin (drop (suc (end + 1 + size)) line)) (second (wordsOf (drop (suc (end + 1 + size)) line))))
-    where
-      second : (ws : List (List ℕ)) → Bad ≡ load (take size s ∷ inFront [] ws)
-      second [] = refl
-      second (v ∷ vs) = refl
+  module _ (line s : List ℕ) (end size : ℕ) (h : end < length line) (e : s ≡ drop (end + 1) line) (w : WordEnds s size) where
+    pub bytes-and-more : (size ≡ length s → ⊥) → Bad ≡ withBytes c (behindWord (drop end line))
+    unfolding withBytes behindWord inFront
+    bytes-and-more k =
+        rw (more-words line s end size h e w, drop-cons line (end + 1 + size) 0 (omega (arith, w .within, ap length e, length-drop (end + 1) line)), behindWord)
+        (rw (in-word-begin (drop (suc (end + 1 + size)) line)) (second (wordsOf (drop (suc (end + 1 + size)) line))))
+      where
+        second : (ws : List (List ℕ)) → Bad ≡ withBytes c (take size s ∷ inFront [] ws)
+        second [] = refl
+        second (v ∷ vs) = refl
 
-  one-word : size ≡ length s → behindWord (drop end line) ≡ s ∷ []
-  unfolding behindWord
-  one-word k =
-      more-words line s end size h e w
-      ∙ rw (take-all size s (omega arith), drop-of-length-le line {i = end + 1 + size} (omega (arith, ap length e, length-drop (end + 1) line)))
+    one-word : size ≡ length s → behindWord (drop end line) ≡ s ∷ []
+    unfolding behindWord
+    one-word k =
+        more-words line s end size h e w
+        ∙ rw (take-all size s (omega arith), drop-of-length-le line {i = end + 1 + size} (omega (arith, ap length e, length-drop (end + 1) line)))
 
-  pub load-none : size ≡ length s → isSome (bytesOf s) ≡ false → Bad ≡ load (behindWord (drop end line))
-  unfolding load
-  load-none k n = rw (one-word k, not-some (bytesOf s) n, load)
+    pub no-bytes : size ≡ length s → isSome (bytesOf s) ≡ false → Bad ≡ withBytes c (behindWord (drop end line))
+    unfolding withBytes
+    no-bytes k n = rw (one-word k, not-some (bytesOf s) n, withBytes)
 
-  pub load-bytes : size ≡ length s → isSome (bytesOf s) ≡ true → Load 5 ≡ load (behindWord (drop end line))
-  unfolding load
-  load-bytes k n = rw (one-word k, (is-some (bytesOf s) n) .1, load)
+    pub some-bytes : size ≡ length s → isSome (bytesOf s) ≡ true → c ≡ withBytes c (behindWord (drop end line))
+    unfolding withBytes
+    some-bytes k n = rw (one-word k, (is-some (bytesOf s) n) .1, withBytes)
 
 -- a command of numbers: of the cells only those count that were read
 made-of-read : (k : Kind) (cells : List ℕ) → made k (take (length (mosts k)) cells) ≡ made k cells

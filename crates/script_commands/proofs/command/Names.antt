@@ -22,9 +22,11 @@ by-name line end n e f = f ∙ sym (ap (λ (m : List ℕ). named commands m (beh
 pub no-name : (name : List ℕ) (ws : List (List ℕ)) → same name (text "load") ≡ false → same name (text "clear") ≡ false → same name (text "tc") ≡ false
     → same name (text "req") ≡ false → same name (text "rep") ≡ false → same name (text "clk") ≡ false
     → same name (text "out") ≡ false → same name (text "wd") ≡ false → same name (text "setwd") ≡ false
-    → same name (text "sheet") ≡ false → same name (text "sheet2") ≡ false → same name (text "next") ≡ false → Bad ≡ named commands name ws
+    → same name (text "sheet") ≡ false → same name (text "sheet2") ≡ false → same name (text "next") ≡ false
+    → same name (text "blank") ≡ false → same name (text "holds") ≡ false → Bad ≡ named commands name ws
 unfolding named commands
-no-name name ws a b c d e f g h i j k l = rw (a, named, b, named, c, named, d, named, e, named, f, named, g, named, h, named, i, named, j, named, k, named, l, named)
+no-name name ws a b c d e f g h i j k l m n =
+    rw (a, named, b, named, c, named, d, named, e, named, f, named, g, named, h, named, i, named, j, named, k, named, l, named, m, named, n, named)
 
 pub empty-line : (s : List ℕ) → length s ≡ 0 → Skip ≡ commandOf s
 unfolding commandOf

@@ -1,6 +1,8 @@
--- A load: the bytes that were decoded are the file, and the line of its verdict is put. Assumes nothing.
+-- A load and the question for a plan: the bytes that were decoded are the file, and its line is put. Assumes nothing.
 use mathlib.Core.Path.{_≡_, refl, sym, ap, _∙_}
 use mathlib.Core.List.{List, [], _∷_, _++_}
+use mathlib.Core.Bool.{Bool, true}
+use mathlib.Core.Logic.{_↔_}
 use Prim.Native.Nat.{ℕ, _+_, _*_, _≤_}
 use native.Mathlib.Omega.{arith}
 use lib.ListN.{length, take, drop, replicate, length-append, length-replicate}
@@ -16,7 +18,9 @@ use Rattle.rules_box.specs.declared.Watchdog.{Watchdog}
 use Rattle.box_calls.specs.Calls.{Memory, LoadLeaves}
 use Rattle.script_words.specs.laws.Lengths.{numbers-most}
 use Rattle.script_hex.specs.Hex.{decoded}
-use Rattle.script_desk.specs.Replay.{kept, Loaded, Answers}
+use Rattle.load_plan.specs.Load.{HoldsPlanOf}
+use Rattle.script_answers.specs.Texts.{flagLine, Prints}
+use Rattle.script_desk.specs.Replay.{kept, Loaded, Says, Answers}
 
 -- bytes at the front of a buffer
 module _ (xs l : List ℕ) {o : List ℕ} {r : ℕ} (k : ℕ) (f : (r ≡ length xs) × (o ≡ xs ++ drop k l)) where
@@ -57,3 +61,8 @@ module _ (word : List ℕ) {b o : List ℕ} {size : ℕ} (e : b ≡ replicate 16
         told = record { leaves = rw (k .verdict) at k; prints = ap line (k .verdict) };
         prints = record { size = q .0; holds = q .1 };
       }
+
+  pub holds-answers : {sets ends rows reach paths spans aims numbers out out′ : List ℕ} {x : Bool} {end : ℕ}
+      → (x ≡ true) ↔ HoldsPlanOf (take size o) sets ends rows reach paths spans aims numbers → Prints (flagLine x) out out′ end
+      → Answers (Says (HoldsPlanOf (decoded 16_400 word) sets ends rows reach paths spans aims numbers)) out out′ end
+  holds-answers {x} g p = record { printed = flagLine x; told = record { flag = x; exactly = rw file-is at g; prints = refl }; prints = p }

@@ -2,6 +2,8 @@
 use mathlib.Core.Path.{_≡_, refl, sym, ap, _∙_}
 use mathlib.Core.List.{List, []}
 use mathlib.Core.Option.{some}
+use mathlib.Core.Bool.{Bool, true}
+use mathlib.Core.Logic.{_↔_}
 use Prim.Native.Nat.{ℕ, _-_, _≤_}
 use lib.ListN.{length, take, drop, replicate}
 use Rattle.lists.specs.laws.Parts.{from-to-end}
@@ -14,16 +16,16 @@ use Rattle.ask_next.specs.Asked.{TellsNext}
 use Rattle.time_sheet.specs.Paced.{paced}
 use Rattle.rules_box.specs.declared.Event.the-variants as event
 use Rattle.rules_box.specs.declared.Watchdog as five
-use Rattle.box_calls.specs.Calls.{Memory, ClearLeaves}
+use Rattle.rules_box.specs.State.{cleared, watchdogCleared}
+use Rattle.box_calls.specs.Calls.{Memory, At, ClearLeaves}
 use Rattle.script_hex.specs.Hex.{bytesOf, decoded}
 use Rattle.script_hex.specs.laws.Bytes.{bytes-decoded}
 use Rattle.script_commands.specs.declared.command.Command.{Command}
-use Rattle.script_commands.specs.declared.command.Command.the-variants.{Skip, Bad, Load, Clear, TimeCode, Request, Reply, Reading, Out, Watchdog, SetWatchdog, Sheet, Next}
+use Rattle.script_commands.specs.declared.command.Command.the-variants.{Skip, Bad, Load, Clear, TimeCode, Request, Reply, Reading, Out, Watchdog, SetWatchdog, Sheet, Next, Blank, Holds}
 use Rattle.script_commands.specs.Script.{commandOf}
-use Rattle.script_commands.specs.laws.Loads.{load-line}
-use Rattle.script_commands.specs.laws.Rooms.{Rooms, line-rooms}
-use Rattle.script_answers.specs.Texts.{ended, errorLine, watchdogLine, sheetLine, nextLine, Prints}
-use Rattle.script_desk.specs.Replay.{Kept, fiveOf, kept, Loaded, Stepped, WrittenOut, NextAsked, Replied, Answers}
+use Rattle.script_commands.specs.laws.Tells.{BytesAt, Tells, line-tells}
+use Rattle.script_answers.specs.Texts.{ended, errorLine, watchdogLine, sheetLine, nextLine, flagLine, Prints}
+use Rattle.script_desk.specs.Replay.{Kept, fiveOf, kept, Loaded, Stepped, WrittenOut, NextAsked, Says, HasPlanOf, Replied, Answers}
 
 answers-as : {P Q : List ℕ → Type 0} {l o : List ℕ} {k : ℕ} → ((t : List ℕ) → P t → Q t) → Answers P l o k → Answers Q l o k
 answers-as f a = record { printed = a .printed; told = f (a .printed) (a .told); prints = a .prints }
@@ -32,6 +34,14 @@ answers-as f a = record { printed = a .printed; told = f (a .printed) (a .told);
 module _ (line : List ℕ) (n : ℕ) {c : Command} (e : c ≡ commandOf line) where
   is : {d : Command} → c ≡ d → commandOf line ≡ d
   is f = sym e ∙ f
+
+  -- what a command tells is in its range
+  told : {d : Command} → c ≡ d → Tells line d
+  told f = rw (is f) at (line-tells line)
+
+  -- the byte string that begins at a place
+  string : {at : ℕ} → BytesAt line at → bytesOf (drop at line) ≡ some (decoded 16_400 (drop at line))
+  string {at} b = bytes-decoded (drop at line) (b .bytes)
 
   module _ (k : Kept) {l : List ℕ} where
     pub skip : c ≡ Skip → Answers (Replied (commandOf line) line n k k) l l 0
@@ -64,6 +74,18 @@ module _ (line : List ℕ) (n : ℕ) {c : Command} (e : c ≡ commandOf line) wh
         let told : NextAsked i t size s m (nextLine x) = λ o h. ap nextLine (g o (m .spans) (held-shown o (m .sets) (m .ends) (m .rows) (m .reach) (m .paths) (m .spans) (m .aims) (m .numbers) h)) in
         rw (is f) (record { printed = nextLine x; told = (refl, told); prints = p })
 
+    pub blank : {x : Bool} → c ≡ Blank → (x ≡ true) ↔ ((k .five ≡ watchdogCleared) × At (k .memory) cleared) → Prints (flagLine x) l o end
+        → Answers (Replied (commandOf line) line n k k) l o end
+    unfolding Replied
+    blank {x} f g p =
+        let yes : (x ≡ true) ↔ ClearLeaves (k .memory) (k .five) = ((λ t. let h = g .0 t in record { holds = h .1; five = h .0 }), (λ h. g .1 (h .five, h .holds))) in
+        rw (is f) (record { printed = flagLine x; told = (refl, record { flag = x; exactly = yes; prints = refl }); prints = p })
+
+    pub holds : {at : ℕ} → c ≡ Holds at → Answers (Says (HasPlanOf (decoded 16_400 (take (length line - at) (drop at line))) (k .memory))) l o end
+        → Answers (Replied (commandOf line) line n k k) l o end
+    unfolding Replied
+    holds {at} f a = rw (is f) (answers-as (λ t h. (refl, decoded 16_400 (drop at line), string (told f), h)) (rw (from-to-end at line) at a))
+
     pub set : {last seen reported least greatest : ℕ} {w : five.Watchdog} → c ≡ SetWatchdog last seen reported least greatest → w ≡ fiveOf last seen reported least greatest → Prints (ended (text "OK")) l o end
         → Answers (Replied (commandOf line) line n k (kept (k .memory) w)) l o end
     unfolding Replied
@@ -74,8 +96,7 @@ module _ (line : List ℕ) (n : ℕ) {c : Command} (e : c ≡ commandOf line) wh
           → Answers (Replied (commandOf line) line n k after) l o end
       unfolding Replied
       load {at} f a =
-          let b : bytesOf (drop at line) ≡ some (decoded 16_400 (drop at line)) = bytes-decoded (drop at line) ((load-line line at (is f)) .bytes) in
-          rw (is f) (answers-as (λ t h. (decoded 16_400 (drop at line), b, h)) (rw (from-to-end at line) at a))
+          rw (is f) (answers-as (λ t h. (decoded 16_400 (drop at line), string (told f), h)) (rw (from-to-end at line) at a))
 
       pub clear : c ≡ Clear → ClearLeaves (after .memory) (after .five) → Prints (ended (text "CLEARED")) l o end
           → Answers (Replied (commandOf line) line n k after) l o end
@@ -101,12 +122,14 @@ module _ (line : List ℕ) (n : ℕ) {c : Command} (e : c ≡ commandOf line) wh
       unfolding Replied
       reading f a = rw (is f) a
 
-  -- what a command tells is in its range
   pub load-within : {at : ℕ} → c ≡ Load at → at ≤ length line
-  load-within {at} f = (load-line line at (is f)) .within
+  load-within f = (told f) .within
+
+  pub holds-within : {at : ℕ} → c ≡ Holds at → at ≤ length line
+  holds-within f = (told f) .within
 
   pub records-within : {byte clock room : ℕ} → c ≡ TimeCode byte clock room → room ≤ 4_096
-  records-within f = rw (is f) at (line-rooms line)
+  records-within f = told f
 
   pub out-within : {room : ℕ} → c ≡ Out room → room ≤ 32_768
-  out-within f = rw (is f) at (line-rooms line)
+  out-within f = told f

@@ -39,6 +39,12 @@ slice-aggregate-write-all-2 c = sym (length-take-le _ _ (omega arith))
 write-all-requires-2 : tie.Need-write-all-requires-2
 write-all-requires-2 c κs = search needs
 
+array-read-tell : tie.Need-array-read-tell
+array-read-tell c = search needs
+
+tell-requires : tie.Need-tell-requires
+tell-requires c κs = search needs
+
 returns-2 : tie.Need-returns-2
 returns-2 c = search needs
 
@@ -57,4 +63,6 @@ main-spec =
     array-share-prefix-out
     slice-aggregate-write-all-2
     write-all-requires-2
+    array-read-tell
+    tell-requires
     returns-2)

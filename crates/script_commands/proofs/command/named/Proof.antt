@@ -17,7 +17,7 @@ unfolding same text named commands
 returns c =
     let t = c .before in
     let a = t .before .before .before .before .before .args in
-    by-name (a .line .now) (a .end) (text "load") ((t .before .same .ensures .0) (t .if1 .taken)) (c .load .ensures)
+    by-name (a .line .now) (a .end) (text "load") ((t .before .same .ensures .0) (t .if1 .taken)) (c .with-bytes .ensures)
 
 returns-2 : tie.Need-returns-2
 unfolding same text named commands
@@ -97,9 +97,25 @@ returns-12 c =
     by-name (a .line .now) (a .end) (text "next") ((t .before .same12 .ensures .0) (t .if12 .taken)) (c .numbered9 .ensures)
 
 returns-13 : tie.Need-returns-13
-unfolding text
+unfolding same text named commands
 returns-13 c =
-    let s12 = c .before in
+    let t = c .before in
+    let a = t .before .before .before .before .before .before .before .before .before .before .before .before .before .before .before .before .before .before .before .before .before .before .before .before .before .before .before .before .before .before .before .before .before .before .before .before .before .before .before .before .before .args in
+    by-name (a .line .now) (a .end) (text "blank") ((t .before .same13 .ensures .0) (t .if13 .taken)) (c .alone3 .ensures)
+
+returns-14 : tie.Need-returns-14
+unfolding same text named commands
+returns-14 c =
+    let t = c .before in
+    let a = t .before .before .before .before .before .before .before .before .before .before .before .before .before .before .before .before .before .before .before .before .before .before .before .before .before .before .before .before .before .before .before .before .before .before .before .before .before .before .before .before .before .before .before .before .args in
+    by-name (a .line .now) (a .end) (text "holds") ((t .before .same14 .ensures .0) (t .if14 .taken)) (c .with-bytes2 .ensures)
+
+returns-15 : tie.Need-returns-15
+unfolding text
+returns-15 c =
+    let s14 = c .before in
+    let s13 = s14 .before .before .before in
+    let s12 = s13 .before .before .before in
     let s11 = s12 .before .before .before in
     let s10 = s11 .before .before .before in
     let s9 = s10 .before .before .before in
@@ -118,7 +134,8 @@ returns-13 c =
     (same-says name (text "req") (s4 .same4 .ensures) ∙ s5 .before .before .if4 .left) (same-says name (text "rep") (s5 .same5 .ensures) ∙ s6 .before .before .if5 .left) (same-says name (text "clk") (s6 .same6 .ensures) ∙ s7 .before .before .if6 .left)
     (same-says name (text "out") (s7 .same7 .ensures) ∙ s8 .before .before .if7 .left) (same-says name (text "wd") (s8 .same8 .ensures) ∙ s9 .before .before .if8 .left) (same-says name (text "setwd") (s9 .same9 .ensures) ∙ s10 .before .before .if9 .left)
     (same-says name (text "sheet") (s10 .same10 .ensures) ∙ s11 .before .before .if10 .left) (same-says name (text "sheet2") (s11 .same11 .ensures) ∙ s12 .before .before .if11 .left)
-    (same-says name (text "next") (s12 .same12 .ensures) ∙ c .if12 .left)
+    (same-says name (text "next") (s12 .same12 .ensures) ∙ s13 .before .before .if12 .left) (same-says name (text "blank") (s13 .same13 .ensures) ∙ s14 .before .before .if13 .left)
+    (same-says name (text "holds") (s14 .same14 .ensures) ∙ c .if14 .left)
 
 pub named-spec : {M : Type 1} → statement M
 unfolding mosts
@@ -183,4 +200,12 @@ named-spec =
     (λ c. search needs)
     (λ c κs. (c .before .before .before .before .before .before .before .before .before .before .before .before .before .before .before .before .before .before .before .before .before .before .before .before .before .before .before .before .before .before .before .before .before .before .before .before .before .before .before .pre, refl))
     returns-12
-    returns-13)
+    (λ c. search needs)
+    (λ c κs. search needs)
+    (λ c κs. c .before .before .before .before .before .before .before .before .before .before .before .before .before .before .before .before .before .before .before .before .before .before .before .before .before .before .before .before .before .before .before .before .before .before .before .before .before .before .before .before .before .pre)
+    returns-13
+    (λ c. search needs)
+    (λ c κs. search needs)
+    (λ c κs. c .before .before .before .before .before .before .before .before .before .before .before .before .before .before .before .before .before .before .before .before .before .before .before .before .before .before .before .before .before .before .before .before .before .before .before .before .before .before .before .before .before .before .before .before .pre)
+    returns-14
+    returns-15)

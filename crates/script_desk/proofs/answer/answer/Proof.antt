@@ -1,7 +1,7 @@
--- `desk::answer::answer` meets its contract: the line is one of the thirteen commands. Assumes nothing.
+-- `desk::answer::answer` meets its contract: the line is one of the fifteen commands. Assumes nothing.
 use borrow.Author.Needs.{needs}
 use Rattle.rules_plan.specs.Print.{text}
-use Rattle.script_desk.proofs.answer.Replies.{skip, bad, load, clear, time-code, request, reply, reading, out, watchdog, set, sheet, next, load-within, records-within, out-within}
+use Rattle.script_desk.proofs.answer.Replies.{skip, bad, load, clear, time-code, request, reply, reading, out, watchdog, set, sheet, next, blank, holds, load-within, holds-within, records-within, out-within}
 use Rattle.script_desk.proofs.answer.answer.Statement.{statement}
 use Rattle.script_desk.proofs.answer.answer.Tie as tie
 
@@ -126,6 +126,34 @@ next-requires c κs = search needs
 put-next-requires : tie.Need-put-next-requires
 put-next-requires c κs = search needs
 
+enum-told-5 : tie.Need-enum-told-5
+enum-told-5 c = search needs
+
+is-blank-requires : tie.Need-is-blank-requires
+is-blank-requires c κs = search needs
+
+put-flag-requires : tie.Need-put-flag-requires
+put-flag-requires c κs = search needs
+
+enum-known-command-10 : tie.Need-enum-known-command-10
+enum-known-command-10 c = search needs
+
+sub-word : tie.Need-sub-word
+sub-word c =
+    let m = c .before .before .before in
+    holds-within (m .before .before .args .line .now) 0 (m .command-of .ensures) (c .before .command10 .given .1)
+
+part-word-start : tie.Need-part-word-start
+part-word-start c =
+    let m = c .before .before .before in
+    holds-within (m .before .before .args .line .now) 0 (m .command-of .ensures) (c .before .command10 .given .1)
+
+part-word-end : tie.Need-part-word-end
+part-word-end c = search needs
+
+holds-requires : tie.Need-holds-requires
+holds-requires c κs = search needs
+
 returns : tie.Need-returns
 returns c =
     let e = c in
@@ -219,6 +247,20 @@ returns-13 c =
     let a = m .before .before .args in
     next (a .line .now) (a .number) (m .command-of .ensures) _ (e .command9 .given .1) (c .before .before .next .ensures) (c .put-next .ensures)
 
+returns-14 : tie.Need-returns-14
+returns-14 c =
+    let e = c .before .before .before .before .before .before .before .before .before .before .before .before .before in
+    let m = e .before .before in
+    let a = m .before .before .args in
+    blank (a .line .now) (a .number) (m .command-of .ensures) _ (e .enum-told5 .given .1) (c .before .before .is-blank .ensures) (c .put-flag .ensures)
+
+returns-15 : tie.Need-returns-15
+returns-15 c =
+    let e = c .before .before .before .before .before .before .before .before .before .before .before .before in
+    let m = e .before .before in
+    let a = m .before .before .args in
+    holds (a .line .now) (a .number) (m .command-of .ensures) _ (e .command10 .given .1) (c .holds .ensures)
+
 pub answer-spec : {M : Type 1} → statement M
 answer-spec =
     tie.close
@@ -260,6 +302,14 @@ answer-spec =
     enum-known-command-9
     next-requires
     put-next-requires
+    enum-told-5
+    is-blank-requires
+    put-flag-requires
+    enum-known-command-10
+    sub-word
+    part-word-start
+    part-word-end
+    holds-requires
     returns
     returns-2
     returns-3
@@ -272,4 +322,6 @@ answer-spec =
     returns-10
     returns-11
     returns-12
-    returns-13)
+    returns-13
+    returns-14
+    returns-15)

@@ -1,15 +1,15 @@
--- `script::command::load` meets its contract. Assumes nothing.
+-- `script::command::with_bytes` meets its contract. Assumes nothing.
 use mathlib.Core.Path.{sym, _∙_}
 use Prim.Native.Nat.{_+_}
 use borrow.Author.Needs.{needs}
 use borrow.Author.Tests.{not-true, not-false}
 use Rattle.lists.specs.laws.Parts.{from-to-end}
-use Rattle.script_commands.proofs.command.Made.{load-nothing, load-more, load-none, load-bytes}
-use Rattle.script_commands.proofs.command.load.Statement.{statement}
-use Rattle.script_commands.proofs.command.load.Tie as tie
+use Rattle.script_commands.proofs.command.Made.{bytes-missing, bytes-and-more, no-bytes, some-bytes}
+use Rattle.script_commands.proofs.command.with_bytes.Statement.{statement}
+use Rattle.script_commands.proofs.command.with_bytes.Tie as tie
 
 returns : tie.Need-returns
-returns c = let a = c .before .before .args in load-nothing (a .line .now) (a .end) (c .if1 .taken)
+returns c = let a = c .before .before .args in bytes-missing (a .command) (a .line .now) (a .end) (c .if1 .taken)
 
 add-start : tie.Need-add-start
 add-start c = search needs
@@ -30,7 +30,7 @@ returns-2 : tie.Need-returns-2
 returns-2 c =
     let w = c .before in
     let a = w .before .before .before .before .args in
-    load-more (a .line .now) _ (a .end) _ (search needs) (from-to-end (a .end + 1) (a .line .now)) (w .word-length .ensures) (c .if2 .taken)
+    bytes-and-more (a .command) (a .line .now) _ (a .end) _ (search needs) (from-to-end (a .end + 1) (a .line .now)) (w .word-length .ensures) (c .if2 .taken)
 
 is-bytes-requires : tie.Need-is-bytes-requires
 is-bytes-requires c κs = search needs
@@ -39,18 +39,18 @@ returns-3 : tie.Need-returns-3
 returns-3 c =
     let w = c .before .before .before in
     let a = w .before .before .before .before .args in
-    load-none (a .line .now) _ (a .end) _ (search needs) (from-to-end (a .end + 1) (a .line .now)) (w .word-length .ensures) (c .before .before .if2 .left)
+    no-bytes (a .command) (a .line .now) _ (a .end) _ (search needs) (from-to-end (a .end + 1) (a .line .now)) (w .word-length .ensures) (c .before .before .if2 .left)
     (sym (c .before .is-bytes .ensures) ∙ not-true _ (c .if3 .taken))
 
 returns-4 : tie.Need-returns-4
 returns-4 c =
     let w = c .before .before .before in
     let a = w .before .before .before .before .args in
-    load-bytes (a .line .now) _ (a .end) _ (search needs) (from-to-end (a .end + 1) (a .line .now)) (w .word-length .ensures) (c .before .before .if2 .left)
+    some-bytes (a .command) (a .line .now) _ (a .end) _ (search needs) (from-to-end (a .end + 1) (a .line .now)) (w .word-length .ensures) (c .before .before .if2 .left)
     (sym (c .before .is-bytes .ensures) ∙ not-false _ (c .if3 .left))
 
-pub load-spec : {M : Type 1} → statement M
-load-spec =
+pub with-bytes-spec : {M : Type 1} → statement M
+with-bytes-spec =
     tie.close
     (tie.spec
     returns
