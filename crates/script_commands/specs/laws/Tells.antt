@@ -109,8 +109,7 @@ module _ (s : List ℕ) where
   every-tells n w =
       let ws = behindWord (drop n s) in
       let end : (x : List ℕ) → take n s ≡ x → n ≡ length x = λ x e. sym (length-take-le n s (w .within)) ∙ ap length e in
-      let ns : (k : Kind) (x : List ℕ) → take n s ≡ x → Tells s (numbered k ws) = λ k x e. numbered-tells k ws in
-      (
+      let ns : (k : Kind) (x : List ℕ) → take n s ≡ x → Tells s (numbered k ws) = λ k x e. numbered-tells k ws in (
         λ e. let size = end (text "load") e in bytes-tell (Load 5) n 5 (omega (arith, size)) (λ b. b) ws refl,
         (
           λ e. alone-tells Clear ws tt,
