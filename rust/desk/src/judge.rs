@@ -1,6 +1,6 @@
 //! The verdict on a file: the proved box's, and how it is said.
 
-use crate::words;
+use crate::words::{self, Advice};
 use spwd::{Counts, Fault, Spwd, Verdict, WRITTEN_MOST};
 
 /// A verdict, the box then, and the plan as it holds it: nothing if it was refused.

@@ -6,7 +6,7 @@ use crate::script::{line_of, Command, Line};
 use crate::sheet::Asked;
 use crate::turns::{when, Question, Wanted};
 use crate::waiting::Waiting;
-use crate::words::{self, Row};
+use crate::words::{self, Advice, Row};
 use spwd::{records, Record, Refusal, Spwd, Verdict, Watchdog};
 
 /// A box and the line that its panel shows next.

@@ -4,7 +4,7 @@
 //! requests, replies and clock readings, writes records and the plan, says when the next turn is, and can be cleared. What decides is
 //! the proved library (`crates/spwd_c`, linked as `libspwd_c.a`); here its numbers get names and types, and nothing else happens.
 //!
-//! Numbers are those of document 01; `docs/CARD.md` says of each what it means and what to do. Whatever can be refused answers a
+//! Numbers are those of document 01; `docs/CARD.md` says of each what it means and what to do, and [`words`] has its words. Whatever can be refused answers a
 //! [`Result`]: a load the [`Counts`] of the plan or the [`Fault`] of the file, events, the next turn and writing out what they have to say
 //! or a [`Refusal`], and [`sheet()`] and [`sheet2()`], which ask no box, the time of a transaction or that a number is out of range.
 //!
@@ -28,6 +28,7 @@
 //! ```
 #![no_std]
 
+mod card;
 mod event;
 mod plan;
 #[allow(unsafe_code)]
@@ -38,6 +39,7 @@ mod sheet;
 mod spwd;
 mod verdict;
 mod watchdog;
+pub mod words;
 
 pub use event::{Answer, Ended, Event, ERROR, READ, RESERVED, SUCCESS, WRITE};
 pub use plan::Plan;

@@ -1,5 +1,6 @@
 //! The records of a time-code.
 
+use crate::words;
 use crate::RECORD_SIZE;
 use core::slice;
 
@@ -61,6 +62,16 @@ impl Record {
             length_high,
             length_low,
         ]
+    }
+
+    /// What a record of its kind says, in the words of the card.
+    pub fn words(&self) -> &'static str {
+        words::record(self.kind).means
+    }
+
+    /// What to do about it, in the words of the card.
+    pub fn to_do(&self) -> &'static str {
+        words::record(self.kind).to_do
     }
 }
 

@@ -1,5 +1,6 @@
 //! Refusals of events, of the next turn and of writing out.
 
+use crate::words;
 use core::fmt;
 use core::num::NonZeroU8;
 
@@ -45,6 +46,16 @@ impl Refusal {
     /// Document 01's number.
     pub const fn number(self) -> u8 {
         self.0.get()
+    }
+
+    /// What it means, in the words of the card.
+    pub fn words(self) -> &'static str {
+        words::refusal(self.number()).means
+    }
+
+    /// What to do about it, in the words of the card.
+    pub fn to_do(self) -> &'static str {
+        words::refusal(self.number()).to_do
     }
 }
 

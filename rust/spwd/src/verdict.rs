@@ -1,6 +1,7 @@
 //! What a load answers, and the line that is printed for it.
 
 use crate::raw;
+use crate::words;
 use crate::LINE_ROOM;
 use core::fmt;
 
@@ -56,6 +57,16 @@ impl Fault {
             Self::Overrun { .. } => Verdict::OVERRUN,
             Self::Clash { .. } => Verdict::CLASH,
         }
+    }
+
+    /// What it means, in the words of the card.
+    pub fn words(&self) -> &'static str {
+        words::verdict(self.number()).means
+    }
+
+    /// What to do about it, in the words of the card.
+    pub fn to_do(&self) -> &'static str {
+        words::verdict(self.number()).to_do
     }
 }
 
@@ -118,6 +129,16 @@ impl Verdict {
             Self::Accepted(_) => Self::ACCEPTED,
             Self::Refused(fault) => fault.number(),
         }
+    }
+
+    /// What it means, in the words of the card.
+    pub fn words(&self) -> &'static str {
+        words::verdict(self.number()).means
+    }
+
+    /// What to do about it, in the words of the card.
+    pub fn to_do(&self) -> &'static str {
+        words::verdict(self.number()).to_do
     }
 
     /// Whether the box is under the plan.

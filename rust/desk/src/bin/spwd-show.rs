@@ -7,7 +7,7 @@ use desk::page::page;
 use desk::source::Source;
 use desk::streams::{fail, put, put_lines, say, Input, Status};
 use desk::turns::{Question, Wanted};
-use desk::words;
+use desk::words::{self, Advice};
 use std::ffi::OsString;
 use std::process::ExitCode;
 
