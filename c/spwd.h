@@ -6,8 +6,14 @@
  * be the first call too, since it clears. Ask spwd_version_fits once, at the start.
  *
  * Everything below follows document 01, "The initiator box described, with its rules"; its numbers are the constants here, and
- * docs/CARD.md says of each what to do about it. What is proved of each function of the archive (spwd_raw.h) is its contract in
- * crates/spwd_c; the functions here are thin over these, tested and not proved.
+ * docs/CARD.md says of each what it means and what to do about it, in the words that spwd_words.h answers. What is proved of each function
+ * of the archive (spwd_raw.h) is its contract in crates/spwd_c; the functions here are thin over these, tested and not proved.
+ *
+ * Devices, kinds, lengths, transaction numbers, slots, routers, rates and the byte of a time-code have 8 or 16 bits in document 01. The
+ * functions here take them in 64, so that no number is cut on its way in: a length of 65,636 is refused as over SPWD_LENGTH_MOST, and does
+ * not become 100. One that is over its width is refused by the number that document 01 has for it, in document 01's order; a negative one
+ * is over every width. The two numbers that have all their values are taken as they are: a clock has 32 bits and runs round, and a status
+ * is one byte of a packet, of which document 01 refuses none.
  *
  * What the caller owes, since no proof reaches it: pointers are valid for the size given; a file, a record buffer or room for writing
  * out does not overlap the box; one call at a time on one box. A pointer may be NULL where the size beside it is 0.
@@ -25,13 +31,14 @@
 #define SPWD_H
 
 #include "spwd_raw.h"
+#include "spwd_words.h"
 
 #include <stdbool.h>
 #include <stddef.h>
 #include <stdint.h>
 
-/* ---- the version of this interface: one more with each change of what is lent, of the numbers that calls take and give back, or of
- * the bytes of a plan file or a record */
+/* ---- the version of the archive's interface: one more with each change of what is lent, of the numbers that its calls take and give
+ * back, or of the bytes of a plan file or a record */
 
 #define SPWD_VERSION 5
 
@@ -127,7 +134,24 @@ typedef struct spwd_plan {
     uint32_t numbers[524];
 } spwd_plan;
 
-/* One box: all memory that it needs, 15,656 bytes. Only `watchdog` is for the caller to read and write. */
+/* One box: all memory that it needs, 15,656 bytes. Only `watchdog` is for the caller to read and write.
+ *
+ * The image of a box is these bytes as they stand in memory. A jig that programs boxes writes them and reads them back (c/jig.c), and the
+ * desk's spwd-counter reads them from a file. On the machines named above numbers have their least significant byte first:
+ *     offset   bytes
+ *          0      24   plan.sets       3 numbers of 8 bytes
+ *         24     128   plan.ends
+ *        152       8   plan.rows
+ *        160      64   plan.reach      8 numbers of 8 bytes
+ *        224   2,816   plan.paths
+ *      3,040     512   plan.spans
+ *      3,552   9,216   plan.aims       1,152 numbers of 8 bytes
+ *     12,768   2,096   plan.numbers    524 numbers of 4 bytes
+ *     14,864     768   run             96 numbers of 8 bytes
+ *     15,632      20   watchdog        5 numbers of 4 bytes
+ *     15,652       1   last
+ *     15,653       3   padding         of no number: it may hold anything, and nothing looks at it
+ * After a clear all of it is 0, the padding apart. */
 typedef struct spwd_box {
     spwd_plan plan;
     uint64_t run[96];
@@ -195,14 +219,15 @@ typedef struct spwd_record {
     uint16_t length;
 } spwd_record;
 
-/* ---- sizes held at compile time, a number of two bytes, and results that must be looked at: a compiler that can warns where one is not */
+/* ---- sizes held at compile time, a narrower number, results that must be looked at (a compiler that can warns where one is not), and a
+ * function that is not to be inlined where it is called */
 
 #ifdef __cplusplus
 #define SPWD_HOLDS(name, fact) static_assert(fact, #name)
-#define SPWD_U16(high, low) static_cast<uint16_t>((high) << 8 | (low))
+#define SPWD_NARROW(type, number) static_cast<type>(number)
 #else
 #define SPWD_HOLDS(name, fact) typedef char spwd_holds_##name[(fact) ? 1 : -1]
-#define SPWD_U16(high, low) ((uint16_t)((high) << 8 | (low)))
+#define SPWD_NARROW(type, number) ((type)(number))
 #endif
 
 #if (defined(__cplusplus) && __cplusplus >= 201703L) || (defined(__STDC_VERSION__) && __STDC_VERSION__ >= 202311L)
@@ -213,11 +238,40 @@ typedef struct spwd_record {
 #define SPWD_MUST_LOOK
 #endif
 
+#ifdef __GNUC__
+#define SPWD_APART __attribute__((noinline, unused)) static
+#else
+#define SPWD_APART static inline
+#endif
+
 SPWD_HOLDS(sizes_of_64_bits, sizeof(size_t) == 8 && sizeof(void *) == 8);
 SPWD_HOLDS(records_room, SPWD_RECORDS_ROOM == 136);
-SPWD_HOLDS(plan_without_gaps, sizeof(spwd_plan) == 14864);
-SPWD_HOLDS(box_without_gaps_but_at_its_end, offsetof(spwd_box, last) == 14864 + 768 + 20);
-SPWD_HOLDS(box_size, sizeof(spwd_box) == 15656);
+SPWD_HOLDS(image_sets, offsetof(spwd_box, plan) == 0 && offsetof(spwd_plan, sets) == 0);
+SPWD_HOLDS(image_ends, offsetof(spwd_plan, ends) == 24);
+SPWD_HOLDS(image_rows, offsetof(spwd_plan, rows) == 152);
+SPWD_HOLDS(image_reach, offsetof(spwd_plan, reach) == 160);
+SPWD_HOLDS(image_paths, offsetof(spwd_plan, paths) == 224);
+SPWD_HOLDS(image_spans, offsetof(spwd_plan, spans) == 3040);
+SPWD_HOLDS(image_aims, offsetof(spwd_plan, aims) == 3552);
+SPWD_HOLDS(image_numbers, offsetof(spwd_plan, numbers) == 12768);
+SPWD_HOLDS(plan_without_gaps, sizeof(spwd_plan) == 12768 + 2096);
+SPWD_HOLDS(image_run, offsetof(spwd_box, run) == 14864);
+SPWD_HOLDS(image_watchdog, offsetof(spwd_box, watchdog) == 15632);
+SPWD_HOLDS(image_last, offsetof(spwd_box, last) == 15652);
+SPWD_HOLDS(box_without_gaps_but_at_its_end, sizeof(spwd_box) == 15652 + 1 + 3);
+
+/* ---- numbers on their way into the archive: one that is over the width becomes the greatest of the width, which document 01 refuses by
+ * the same number. No device, kind or slot is 255, nor a time-code's byte or a number of routers; no length and no rate is 65,535. */
+
+static inline uint8_t spwd_in_8_bits(uint64_t number)
+{
+    return number > UINT8_MAX ? SPWD_NARROW(uint8_t, UINT8_MAX) : SPWD_NARROW(uint8_t, number);
+}
+
+static inline uint16_t spwd_in_16_bits(uint64_t number)
+{
+    return number > UINT16_MAX ? SPWD_NARROW(uint16_t, UINT16_MAX) : SPWD_NARROW(uint16_t, number);
+}
 
 /* ---- the box */
 
@@ -279,37 +333,67 @@ SPWD_MUST_LOOK static inline spwd_verdict spwd_load(spwd_box *box, const uint8_t
 }
 
 /* Takes a time-code: answers how many records of SPWD_RECORD_SIZE bytes it wrote to the buffer, and updates the five.
- * Refusals: SPWD_NO_PLAN, SPWD_UPPER_BITS, SPWD_SMALL_BUFFER (room under SPWD_RECORDS_ROOM).
+ * Refusals: SPWD_NO_PLAN, SPWD_UPPER_BITS (byte from 64 on), SPWD_SMALL_BUFFER (room under SPWD_RECORDS_ROOM).
  * Left as it was: the buffer beyond the records; on a refusal everything, the whole buffer and the five too. */
-SPWD_MUST_LOOK static inline spwd_answer spwd_time_code(spwd_box *box, uint8_t byte, uint32_t clock, uint8_t *records, size_t room)
+SPWD_MUST_LOOK static inline spwd_answer spwd_time_code(spwd_box *box, uint64_t byte, uint32_t clock, uint8_t *records, size_t room)
 {
     const spwd_plan *plan = &box->plan;
     uint8_t nothing[1] = {0};
     uint32_t answer[8];
-    spwd_c_time_code(plan->spans, plan->aims, plan->numbers, box->run, box->last, &box->watchdog, byte, clock,
+    spwd_c_time_code(plan->spans, plan->aims, plan->numbers, box->run, box->last, &box->watchdog, spwd_in_8_bits(byte), clock,
                      room == 0 ? nothing : records, room, answer);
     return spwd_answer_of(answer);
 }
 
 /* Puts a request (SPWD_READ or SPWD_WRITE) into its initiator's line and answers its transaction number.
- * Refusals: SPWD_NO_PLAN, SPWD_NO_INITIATOR, SPWD_UNKNOWN_KIND, SPWD_LENGTH_OVER_MOST, SPWD_NOT_PERMITTED, SPWD_LINE_FULL.
+ * Refusals: SPWD_NO_PLAN, SPWD_NO_INITIATOR (every initiator from 64 on too), SPWD_UNKNOWN_KIND (every kind but the two),
+ * SPWD_LENGTH_OVER_MOST (length over SPWD_LENGTH_MOST), SPWD_NOT_PERMITTED (every target from 64 on too), SPWD_LINE_FULL.
  * Left as it was: the five; on a refusal everything, and the number is not used up. */
-SPWD_MUST_LOOK static inline spwd_answer spwd_request(spwd_box *box, uint8_t initiator, uint8_t target, uint8_t kind, uint16_t length)
+SPWD_MUST_LOOK static inline spwd_answer spwd_request(spwd_box *box, uint64_t initiator, uint64_t target, uint64_t kind,
+                                                      uint64_t length)
 {
     const spwd_plan *plan = &box->plan;
     uint32_t answer[8];
-    spwd_c_request(plan->rows, plan->aims, plan->numbers, box->run, initiator, target, kind, length, answer);
+    spwd_c_request(plan->rows, plan->aims, plan->numbers, box->run, spwd_in_8_bits(initiator), spwd_in_8_bits(target),
+                   spwd_in_8_bits(kind), spwd_in_16_bits(length), answer);
     return spwd_answer_of(answer);
 }
 
-/* Ends the live transaction of an initiator and answers its target and length, the status and its class.
- * Refusals: SPWD_NO_PLAN, SPWD_NO_INITIATOR, SPWD_NOTHING_LIVE, SPWD_OTHER_TRANSACTION.
+/* The answer to a reply whose transaction number is over its width, and so no live one's; spwd_reply asks for it. A copy of what the
+ * initiators have is asked with number 0: it is refused as any other that is not the live one's, and where it is the live one's,
+ * the answer is SPWD_OTHER_TRANSACTION. */
+SPWD_APART spwd_answer spwd_reply_to_none(const spwd_box *box, uint64_t initiator)
+{
+    const spwd_plan *plan = &box->plan;
+    uint64_t run[96];
+    uint32_t answer[8];
+    size_t place;
+    for (place = 0; place < 96; place++) {
+        run[place] = box->run[place];
+    }
+    spwd_c_reply(plan->rows, plan->numbers, run, spwd_in_8_bits(initiator), 0, 0, answer);
+    if (answer[0] == SPWD_TAKEN) {
+        for (place = 0; place < 8; place++) {
+            answer[place] = 0;
+        }
+        answer[0] = SPWD_OTHER_TRANSACTION;
+    }
+    return spwd_answer_of(answer);
+}
+
+/* Ends the live transaction of an initiator and answers its target and length, the status and its class. The status is handed on as the
+ * one byte that a packet has for it.
+ * Refusals: SPWD_NO_PLAN, SPWD_NO_INITIATOR (every initiator from 64 on too), SPWD_NOTHING_LIVE, SPWD_OTHER_TRANSACTION (every number
+ * over 65,535 too).
  * Left as it was: lines and the five; on a refusal everything. */
-SPWD_MUST_LOOK static inline spwd_answer spwd_reply(spwd_box *box, uint8_t initiator, uint16_t transaction, uint8_t status)
+SPWD_MUST_LOOK static inline spwd_answer spwd_reply(spwd_box *box, uint64_t initiator, uint64_t transaction, uint8_t status)
 {
     const spwd_plan *plan = &box->plan;
     uint32_t answer[8];
-    spwd_c_reply(plan->rows, plan->numbers, box->run, initiator, transaction, status, answer);
+    if (transaction > UINT16_MAX) {
+        return spwd_reply_to_none(box, initiator);
+    }
+    spwd_c_reply(plan->rows, plan->numbers, box->run, spwd_in_8_bits(initiator), SPWD_NARROW(uint16_t, transaction), status, answer);
     return spwd_answer_of(answer);
 }
 
@@ -327,14 +411,17 @@ SPWD_MUST_LOOK static inline spwd_answer spwd_reading(spwd_box *box, uint32_t cl
  * with this length. 1 is the slot after it, SPWD_SLOTS that slot again. Only the plan is asked, not what waits or is live.
  * With the slot of the last time-code taken since the load, if there was one: a request that is taken now, into an empty line, starts at
  * the count-th time-code from here, if all of them are in sequence.
- * Refusals: SPWD_NO_PLAN, SPWD_NO_INITIATOR, SPWD_LENGTH_OVER_MOST, SPWD_NOT_PERMITTED, SPWD_SLOT_OVER_MOST (slot from SPWD_SLOTS on).
+ * Refusals: SPWD_NO_PLAN, SPWD_NO_INITIATOR (every initiator from 64 on too), SPWD_LENGTH_OVER_MOST (length over SPWD_LENGTH_MOST),
+ * SPWD_NOT_PERMITTED (every target from 64 on too), SPWD_SLOT_OVER_MOST (slot from SPWD_SLOTS on).
  * Left as it was: everything. */
-SPWD_MUST_LOOK static inline spwd_turn spwd_next(const spwd_box *box, uint8_t initiator, uint8_t target, uint16_t length, uint8_t slot)
+SPWD_MUST_LOOK static inline spwd_turn spwd_next(const spwd_box *box, uint64_t initiator, uint64_t target, uint64_t length,
+                                                 uint64_t slot)
 {
     const spwd_plan *plan = &box->plan;
     spwd_turn turn;
     uint32_t answer[2];
-    spwd_c_next(plan->rows, plan->aims, plan->numbers, initiator, target, length, slot, answer);
+    spwd_c_next(plan->rows, plan->aims, plan->numbers, spwd_in_8_bits(initiator), spwd_in_8_bits(target), spwd_in_16_bits(length),
+                spwd_in_8_bits(slot), answer);
     turn.number = answer[0];
     turn.count = answer[1];
     return turn;
@@ -376,7 +463,7 @@ static inline size_t spwd_print(const spwd_verdict *verdict, uint8_t line[SPWD_L
  * Refusals: SPWD_OUT_OF_RANGE (over SPWD_ROUTERS_MOST on either way, a rate outside SPWD_RATE_LEAST to SPWD_RATE_MOST, over
  * SPWD_LENGTH_MOST, a latency over SPWD_LATENCY_MOST).
  * Left as it was: everything. */
-SPWD_MUST_LOOK static inline spwd_terms spwd_sheet2(uint8_t command_routers, uint8_t reply_routers, uint16_t rate, uint16_t length,
+SPWD_MUST_LOOK static inline spwd_terms spwd_sheet2(uint64_t command_routers, uint64_t reply_routers, uint64_t rate, uint64_t length,
                                                     spwd_latencies latencies)
 {
     uint32_t given[4];
@@ -386,7 +473,8 @@ SPWD_MUST_LOOK static inline spwd_terms spwd_sheet2(uint8_t command_routers, uin
     given[1] = latencies.d;
     given[2] = latencies.f;
     given[3] = latencies.g;
-    spwd_c_sheet(command_routers, reply_routers, rate, length, given, answer);
+    spwd_c_sheet(spwd_in_8_bits(command_routers), spwd_in_8_bits(reply_routers), spwd_in_16_bits(rate), spwd_in_16_bits(length), given,
+                 answer);
     terms.number = answer[0];
     terms.total = answer[1];
     terms.b = answer[2];
@@ -400,7 +488,7 @@ SPWD_MUST_LOOK static inline spwd_terms spwd_sheet2(uint8_t command_routers, uin
 /* The same for a reply that goes back over the links of its command: both ways have so many routers.
  * Refusals: those of spwd_sheet2.
  * Left as it was: everything. */
-SPWD_MUST_LOOK static inline spwd_terms spwd_sheet(uint8_t routers, uint16_t rate, uint16_t length, spwd_latencies latencies)
+SPWD_MUST_LOOK static inline spwd_terms spwd_sheet(uint64_t routers, uint64_t rate, uint64_t length, spwd_latencies latencies)
 {
     return spwd_sheet2(routers, routers, rate, length, latencies);
 }
@@ -438,13 +526,14 @@ static inline spwd_record spwd_record_at(const uint8_t *records, size_t place)
     record.initiator = bytes[1];
     record.target = bytes[2];
     record.value = bytes[3];
-    record.transaction = SPWD_U16(bytes[4], bytes[5]);
-    record.length = SPWD_U16(bytes[6], bytes[7]);
+    record.transaction = SPWD_NARROW(uint16_t, bytes[4] << 8 | bytes[5]);
+    record.length = SPWD_NARROW(uint16_t, bytes[6] << 8 | bytes[7]);
     return record;
 }
 
 #undef SPWD_HOLDS
-#undef SPWD_U16
+#undef SPWD_NARROW
 #undef SPWD_MUST_LOOK
+#undef SPWD_APART
 
 #endif
