@@ -254,11 +254,11 @@ SPWD_HOLDS(image_paths, offsetof(spwd_plan, paths) == 224);
 SPWD_HOLDS(image_spans, offsetof(spwd_plan, spans) == 3040);
 SPWD_HOLDS(image_aims, offsetof(spwd_plan, aims) == 3552);
 SPWD_HOLDS(image_numbers, offsetof(spwd_plan, numbers) == 12768);
-SPWD_HOLDS(plan_without_gaps, sizeof(spwd_plan) == 12768 + 2096);
+SPWD_HOLDS(plan_without_gaps, sizeof(spwd_plan) == 14864);
 SPWD_HOLDS(image_run, offsetof(spwd_box, run) == 14864);
 SPWD_HOLDS(image_watchdog, offsetof(spwd_box, watchdog) == 15632);
 SPWD_HOLDS(image_last, offsetof(spwd_box, last) == 15652);
-SPWD_HOLDS(box_without_gaps_but_at_its_end, sizeof(spwd_box) == 15652 + 1 + 3);
+SPWD_HOLDS(box_without_gaps_but_at_its_end, sizeof(spwd_box) == 15656);
 
 /* ---- numbers on their way into the archive: one that is over the width becomes the greatest of the width, which document 01 refuses by
  * the same number. No device, kind or slot is 255, nor a time-code's byte or a number of routers; no length and no rate is 65,535. */

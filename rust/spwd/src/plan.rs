@@ -2,11 +2,12 @@
 
 use crate::raw;
 use crate::refusal::{taken, Refusal};
+use core::fmt;
 
 /// A plan as the box keeps it, or none. Plans that differ only in the order of their files are equal.
 ///
 /// It stands in every [`Spwd`](crate::Spwd); one beside the box is room for [`Spwd::holds`](crate::Spwd::holds).
-#[derive(Clone, Debug, PartialEq, Eq)]
+#[derive(Clone, PartialEq, Eq)]
 pub struct Plan {
     pub(crate) sets: [u64; 3],
     pub(crate) ends: [u8; 128],
@@ -57,6 +58,20 @@ impl Plan {
         let [number, size] = raw::write_out(self, out);
         taken(number)?;
         Ok(size as usize)
+    }
+
+    /// Whether there is a plan: without one, writing out is refused for that, and else for its room.
+    pub(crate) fn is_given(&self) -> bool {
+        self.write_out(&mut []) != Err(Refusal::NO_PLAN)
+    }
+}
+
+impl fmt::Debug for Plan {
+    /// Whether there is a plan; not its arrays.
+    fn fmt(&self, formatter: &mut fmt::Formatter<'_>) -> fmt::Result {
+        let mut shown = formatter.debug_struct("Plan");
+        shown.field("given", &self.is_given());
+        shown.finish_non_exhaustive()
     }
 }
 

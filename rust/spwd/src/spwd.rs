@@ -7,9 +7,10 @@ use crate::refusal::{taken, Refusal};
 use crate::verdict::{judged, Counts, Fault};
 use crate::version_fits;
 use crate::watchdog::Watchdog;
+use core::fmt;
 
 /// One box: a plan, the initiators that run under it, and the watchdog's five numbers.
-#[derive(Clone, Debug, PartialEq, Eq)]
+#[derive(Clone, PartialEq, Eq)]
 pub struct Spwd {
     plan: Plan,
     run: raw::Run,
@@ -234,6 +235,17 @@ fn whole<T: Copy>(
 ) -> Result<T, Refusal> {
     debug_assert_eq!(eight(answer.map(case)), numbers);
     answer
+}
+
+impl fmt::Debug for Spwd {
+    /// Whether there is a plan, whether the box is blank, and the five; not its arrays.
+    fn fmt(&self, formatter: &mut fmt::Formatter<'_>) -> fmt::Result {
+        let mut shown = formatter.debug_struct("Spwd");
+        shown.field("plan", &self.plan.is_given());
+        shown.field("blank", &self.is_blank());
+        shown.field("watchdog", &self.watchdog);
+        shown.finish_non_exhaustive()
+    }
 }
 
 impl Default for Spwd {
