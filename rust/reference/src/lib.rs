@@ -78,6 +78,19 @@ impl Unit {
         }
     }
 
+    /// Whether every number of the box and of the five is that of a clear.
+    pub fn is_blank(&self, watchdog: &Watchdog) -> bool {
+        static CLEARED: Unit = Unit::new();
+        *self == CLEARED && *watchdog == Watchdog::new()
+    }
+
+    /// Whether a load accepts the file and the box has its plan, in whatever order the file gives it: the
+    /// tables of a plan do not tell in which order they were filled. The file is loaded into `other`.
+    pub fn holds(&self, file: &[u8], other: &mut Unit) -> bool {
+        let verdict = other.load(file, &mut Watchdog::new());
+        verdict.number() == 0 && self.plan == other.plan
+    }
+
     /// Answers 0 and how many slots after the given one this initiator may next start such a request:
     /// 1 is the slot after it, 64 that slot again. Or a refusal's number and 0.
     #[inline]

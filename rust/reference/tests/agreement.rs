@@ -35,11 +35,13 @@ fn box_and_model_agree() {
         if number == 0 {
             check_written_out(&driver, &model);
         }
+        seen.asked(&driver, &model, &asked_files(&file, &mut random));
         let events = if number == 0 { 300 } else { 3 };
         for _ in 0..events {
             seen.turns.insert(turn(&driver, &model, &mut random));
             seen.by_time += u64::from(step(&mut driver, &mut model, &mut random));
         }
+        seen.asked(&driver, &model, &asked_files(&file, &mut random));
     }
     seen.check();
 }
@@ -58,6 +60,11 @@ struct Seen {
     by_time: u64,
     /// Refusals of the next turn, and 0.
     turns: BTreeSet<u8>,
+    /// Whether it was blank.
+    blank: BTreeSet<bool>,
+    /// Of the files asked about: whether the box had a plan, whether the file is accepted, whether the
+    /// box holds its plan.
+    holds: BTreeSet<(bool, bool, bool)>,
 }
 
 impl Seen {
@@ -81,6 +88,20 @@ impl Seen {
         }
     }
 
+    /// Asks both whether they are blank and which of these files they hold.
+    fn asked(&mut self, driver: &Driver, model: &Model, files: &[Vec<u8>]) {
+        let blank = driver.unit.is_blank(&driver.watchdog);
+        assert_eq!(blank, model.is_blank());
+        self.blank.insert(blank);
+        let mut other = Unit::new();
+        for file in files {
+            let holds = driver.unit.holds(file, &mut other);
+            assert_eq!(holds, model.holds(file), "{file:?}");
+            let (plan, accepted) = (model.plan().is_some(), ModelPlan::judge(file).is_ok());
+            self.holds.insert((plan, accepted, holds));
+        }
+    }
+
     fn check(&self) {
         assert_eq!(self.verdicts, (0..16).collect());
         assert_eq!(self.on_replies, BTreeSet::from([2, 5, 6, 7, 8, 10, 11]));
@@ -89,7 +110,30 @@ impl Seen {
         let [plain, timed] = self.accepted;
         assert!(plain > 0 && timed > 0, "no plan with replies was accepted");
         assert_eq!(self.turns, BTreeSet::from([0, 20, 22, 24, 25, 33]));
+        assert_eq!(self.blank, BTreeSet::from([false, true]));
+        let all = [
+            (false, false, false),
+            (false, true, false),
+            (true, false, false),
+            (true, true, false),
+            (true, true, true),
+        ];
+        assert_eq!(self.holds, BTreeSet::from(all));
     }
+}
+
+/// The file, the same in another order, two that are spoilt, and another plan.
+fn asked_files(file: &[u8], random: &mut Random) -> Vec<Vec<u8>> {
+    let spoilt_ones = [spoilt(file, random), spoilt(file, random)];
+    let mut files = vec![file.to_vec(), plan(random)];
+    files.extend(spoilt_ones);
+    if ModelPlan::judge(file).is_ok() {
+        let mut fields = split(file);
+        random.shuffle(&mut fields);
+        fields.sort_by_key(|field| field[0]);
+        files.push(fields.concat());
+    }
+    files
 }
 
 /// Loads both and gives the verdict's number.

@@ -3,8 +3,8 @@
 mod common;
 
 use common::{
-    entry, first_plan, intervals, least_plan, path, plan_a, reply, row_plan, two_ways, usual_times,
-    Driver,
+    entry, first_plan, intervals, least_plan, path, plan_a, reply, row_plan, split, two_ways,
+    usual_times, Driver,
 };
 use std::io::{BufRead, BufReader, Write};
 use std::process::{Command, Stdio};
@@ -297,6 +297,146 @@ fn a_plan_with_times() {
 }
 
 #[test]
+fn blank_or_not() {
+    let load = format!("load {}", hex(&first_plan()));
+    let no_entry = format!("load {}", hex(&plan_a(&[])));
+    let mut script = vec![
+        ("blank", "1"),
+        ("wd", "0 0 0 0 0"),
+        ("tc 0 0 136", "20 0 -"),
+        ("clk 5", "20 0"),
+        ("blank", "1"),
+        (&load, "ACCEPTED 6 5 4 2"),
+        ("blank", "0"),
+        ("setwd 0 0 0 0 0", "OK"),
+        ("blank", "0"),
+        ("req 1 3 0 100", "0 0"),
+        ("tc 0 1000 136", "0 1 0501030000000064"),
+        ("blank", "0"),
+        ("wd", "1000 1 0 0 0"),
+        ("clear", "CLEARED"),
+        ("blank", "1"),
+        (&load, "ACCEPTED 6 5 4 2"),
+        ("load -", "REFUSED 12 0"),
+        ("blank", "1"),
+        (&load, "ACCEPTED 6 5 4 2"),
+        (&no_entry, "REFUSED 15 101"),
+        ("blank", "1"),
+        ("blank", "1"),
+    ];
+    // Each of the five by itself, whatever it is.
+    for five in [
+        "setwd 1 0 0 0 0",
+        "setwd 0 1 0 0 0",
+        "setwd 0 2 0 0 0",
+        "setwd 0 4294967295 0 0 0",
+        "setwd 0 0 1 0 0",
+        "setwd 0 0 256 0 0",
+        "setwd 0 0 0 4294967295 0",
+        "setwd 0 0 0 0 2147483648",
+    ] {
+        script.extend([(five, "OK"), ("blank", "0")]);
+        script.extend([("setwd 0 0 0 0 0", "OK"), ("blank", "1")]);
+        script.extend([(five, "OK"), ("clear", "CLEARED"), ("blank", "1")]);
+        script.extend([(five, "OK"), ("load -", "REFUSED 12 0"), ("blank", "1")]);
+    }
+    replay(&script);
+}
+
+/// A plan whose entries stand far apart, with the first of them at this slot.
+fn apart(slot: u8) -> Vec<u8> {
+    plan_a(&[entry(1, slot, 2, &[3, 4]), entry(2, 60, 1, &[4])])
+}
+
+/// The fields of each tag in falling order.
+fn turned(file: &[u8]) -> Vec<u8> {
+    let mut fields = split(file);
+    fields.reverse();
+    fields.sort_by_key(|field| field[0]);
+    fields.concat()
+}
+
+/// Questions for files, each with its answer.
+fn asked(questions: &[(Vec<u8>, bool)]) -> Vec<(String, &'static str)> {
+    let line = |(file, holds): &(Vec<u8>, bool)| {
+        let answer = if *holds { "1" } else { "0" };
+        (format!("holds {}", hex(file)), answer)
+    };
+    questions.iter().map(line).collect()
+}
+
+/// What is asked of a box with the plan that has its first entry at slot 5.
+fn asked_of_five() -> Vec<(String, &'static str)> {
+    asked(&[
+        (apart(5), true),
+        (turned(&apart(5)), true),
+        (canonical(&apart(5)), true),
+        (apart(6), false),
+        // Refused, for a clash and otherwise.
+        (apart(59), false),
+        (vec![1; 16_400], false),
+        (vec![], false),
+        (vec![0], false),
+        (intervals(90, 110), false),
+    ])
+}
+
+#[test]
+fn holds_or_not() {
+    let [load, load_moved, load_refused] =
+        [5, 6, 59].map(|slot| format!("load {}", hex(&apart(slot))));
+    let held = asked_of_five();
+    let none: Vec<(String, &str)> = held.iter().map(|(line, _)| (line.clone(), "0")).collect();
+    let moved = asked(&[
+        (apart(6), true),
+        (turned(&apart(6)), true),
+        (apart(5), false),
+        (vec![], false),
+    ]);
+    let parts = [
+        (none.clone(), ("blank", "1")),
+        (vec![], (&load[..], "ACCEPTED 6 5 4 2")),
+        (held, (&load_moved, "ACCEPTED 6 5 4 2")),
+        (moved, (&load_refused, "REFUSED 14 60 1 2 3")),
+        (none.clone(), ("blank", "1")),
+        (vec![], (&load, "ACCEPTED 6 5 4 2")),
+        (vec![], ("clear", "CLEARED")),
+        (none, ("blank", "1")),
+    ];
+    replay_parts(&parts);
+}
+
+#[test]
+fn holds_whatever_waits_or_is_live() {
+    let load = format!("load {}", hex(&apart(5)));
+    let held = asked_of_five;
+    let parts = [
+        (vec![], (&load[..], "ACCEPTED 6 5 4 2")),
+        (held(), ("wd", "0 0 0 90 110")),
+        (vec![], ("req 1 3 0 100", "0 0")),
+        (held(), ("tc 5 1000 136", "0 1 0501030500000064")),
+        (vec![], ("req 1 4 1 512", "0 1")),
+        (held(), ("wd", "1000 1 0 90 110")),
+        (vec![], ("setwd 9 8 7 6 5", "OK")),
+        (held(), ("wd", "9 1 1 6 5")),
+        // The live one, its number and the line are as they were.
+        (vec![], ("rep 1 0 0", "0 3 100 0 0")),
+        (held(), ("req 1 4 1 512", "0 2")),
+    ];
+    replay_parts(&parts);
+}
+
+/// Runs questions and the command that follows them, part by part.
+fn replay_parts(parts: &[(Vec<(String, &str)>, (&str, &str))]) {
+    let mut script: Vec<(&str, &str)> = Vec::new();
+    for (questions, command) in parts {
+        script.extend(questions.iter().map(|(line, answer)| (&line[..], *answer)));
+        script.push(*command);
+    }
+    replay(&script);
+}
+
+#[test]
 fn what_is_no_command() {
     let lines = [
         "laod -",
@@ -373,6 +513,30 @@ fn what_is_no_command() {
         "next 40 41 0 256",
         "next 40 41 0 -1",
         "Next 40 41 0 0",
+        "blank 1",
+        "blank 0",
+        "blank -",
+        "blank ",
+        " blank",
+        "blanks",
+        "Blank",
+        "blan",
+        "holds",
+        "holds ",
+        "holds 0",
+        "holds ABC",
+        "holds abc",
+        "holds 0A",
+        "holds 0g",
+        "holds --",
+        "holds 00 ",
+        "holds  00",
+        "holds 00 00",
+        "holds - -",
+        "holds -0",
+        "Holds -",
+        "hold -",
+        "holds\t-",
         "clk 1\r",
         "clk\t1",
         " ",
@@ -406,6 +570,9 @@ fn long_lines_and_no_last_newline() {
     let allowed = format!("load {}", hex(&[6; 16_384]));
     let script = [&most[..], &more, &allowed, "\n# none", "clear"].join("\n");
     let printed = "REFUSED 1 0\nERROR line 2\nREFUSED 5 0\nCLEARED\n";
+    assert_eq!(run(REPLAY, script.as_bytes()), printed);
+    let script = script.replace("load", "holds");
+    let printed = "0\nERROR line 2\n0\nCLEARED\n";
     assert_eq!(run(REPLAY, script.as_bytes()), printed);
     assert_eq!(run(REPLAY, b""), "");
 }

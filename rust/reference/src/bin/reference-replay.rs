@@ -37,8 +37,10 @@ fn main() -> io::Result<()> {
 }
 
 enum Command {
-    /// The bytes are in the replay's own buffer.
+    /// The bytes of both are in the replay's own buffer.
     Load,
+    Holds,
+    Blank,
     Clear,
     Event {
         event: Event,
@@ -62,6 +64,8 @@ struct Replay {
     unit: Unit,
     watchdog: Watchdog,
     file: Vec<u8>,
+    /// A box beside the unit, for the plan of a file that is asked about.
+    other: Unit,
     buffer: [u8; BUFFER],
     room: [u8; ROOM],
     out: Vec<u8>,
@@ -73,6 +77,7 @@ impl Replay {
             unit: Unit::new(),
             watchdog: Watchdog::new(),
             file: Vec::with_capacity(FILE),
+            other: Unit::new(),
             buffer: [0; BUFFER],
             room: [0; ROOM],
             out: Vec::with_capacity(2 * CHUNK),
@@ -101,6 +106,11 @@ impl Replay {
                 self.decode(words.next()?)?;
                 Command::Load
             }
+            b"holds" => {
+                self.decode(words.next()?)?;
+                Command::Holds
+            }
+            b"blank" => Command::Blank,
             b"clear" => Command::Clear,
             b"tc" => Command::Event {
                 event: Event::TimeCode {
@@ -150,6 +160,14 @@ impl Replay {
     fn run(&mut self, command: Command) {
         match command {
             Command::Load => self.load(),
+            Command::Holds => {
+                let holds = self.unit.holds(&self.file, &mut self.other);
+                self.numbers(&[holds.into()]);
+            }
+            Command::Blank => {
+                let blank = self.unit.is_blank(&self.watchdog);
+                self.numbers(&[blank.into()]);
+            }
             Command::Clear => {
                 self.unit.clear(&mut self.watchdog);
                 self.out.extend_from_slice(b"CLEARED");

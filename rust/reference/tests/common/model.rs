@@ -469,6 +469,20 @@ impl Model {
         self.plan.as_ref()
     }
 
+    /// Whether it is as at the start, with five numbers that are all 0.
+    pub fn is_blank(&self) -> bool {
+        let none = self.plan.is_none() && self.initiators.is_empty() && self.last.is_none();
+        none && self.accepted == 0 && self.watchdog == Watchdog::new()
+    }
+
+    /// Whether it has the plan of this file: both are written out alike.
+    pub fn holds(&self, file: &[u8]) -> bool {
+        match (&self.plan, ModelPlan::judge(file)) {
+            (Some(plan), Ok(other)) => plan.written_out() == other.written_out(),
+            _ => false,
+        }
+    }
+
     /// The next turn: the refusal's number or 0, and the count.
     pub fn next(&self, who: u8, target: u8, length: u16, slot: u8) -> (u8, u8) {
         let Some(plan) = &self.plan else {
