@@ -11,6 +11,7 @@ use std::fmt::Debug;
 
 /// What lent buffers hold before a call.
 const FILLED: u8 = 0xa5;
+static ALL_FILLED: [u8; WRITTEN_MOST] = [FILLED; WRITTEN_MOST];
 
 /// Something on which the two do not agree.
 #[derive(Debug)]
@@ -43,6 +44,8 @@ pub struct After {
     pub written: u8,
     pub blank: bool,
     pub holds: bool,
+    /// Whether a load accepts the file that was asked about.
+    pub accepted: bool,
 }
 
 /// What is asked of the two after a call.
@@ -60,8 +63,9 @@ pub struct Both {
     proved: Spwd,
     unit: Unit,
     watchdog: reference::Watchdog,
-    /// Plan memory beside the box's.
+    /// Plan memory beside the box's, and a box beside the reference's.
     other: Plan,
+    their_other: Unit,
 }
 
 impl Both {
@@ -138,26 +142,38 @@ impl Both {
         Ok(())
     }
 
-    /// Compares what can be asked of the two at any time.
+    /// Compares what can be asked of the two at any time, which leaves the box as it was.
     pub fn after(&mut self, question: &Question) -> Outcome<After> {
+        let before = self.proved.clone();
         let blank = same(
             "is blank",
             self.proved.is_blank(),
-            theirs::is_blank(&self.unit, &self.watchdog),
+            self.unit.is_blank(&self.watchdog),
         )?;
         let written = same_written(self.proved.plan(), &self.unit, question.room)?;
-        let (other, holds) = theirs::holds(&self.unit, question.file);
-        let ours = self.proved.holds(question.file, &mut self.other);
-        let holds = same("holds the plan of the file", ours, holds)?;
-        same_written(&self.other, &other, WRITTEN_MOST)?;
+        let holds = self.holds(question.file)?;
+        let other_written = same_written(&self.other, &self.their_other, WRITTEN_MOST)?;
         let turn = question.turn;
         let answer = turn.ask(|i, t, d, slot| self.other.next(i, t, d, slot));
-        same_turn(answer, &other, turn).map(drop)?;
+        same_turn(answer, &self.their_other, turn).map(drop)?;
+        let unchanged = self.proved == before;
+        same("box as it was before it was asked", unchanged, true)?;
         Ok(After {
             written,
             blank,
             holds,
+            accepted: other_written == 0,
         })
+    }
+
+    /// Whether both hold the plan of this file, which is then in the memory beside them. The reference writes plans out alike exactly where
+    /// it says that they are the same.
+    fn holds(&mut self, file: &[u8]) -> Outcome<bool> {
+        let theirs = self.unit.holds(file, &mut self.their_other);
+        let ours = self.proved.holds(file, &mut self.other);
+        let holds = same("holds the plan of the file", ours, theirs)?;
+        let alike = theirs::written_alike(&self.unit, &self.their_other);
+        same("plans written out alike", holds, alike)
     }
 }
 
@@ -207,7 +223,7 @@ fn same_written(plan: &Plan, unit: &Unit, room: usize) -> Outcome<u8> {
     let their_answer = unit.write_out(&mut their_out[..room]);
     let (number, size) = same("answer of writing out", answer, their_answer)?;
     same("plan written out and room beyond it", &out[..], &their_out)?;
-    let untouched = out[size..].iter().all(|&byte| byte == FILLED);
+    let untouched = out[size..] == ALL_FILLED[size..];
     same("room beyond the plan untouched", untouched, true)?;
     Ok(number)
 }

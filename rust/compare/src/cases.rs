@@ -1,15 +1,20 @@
 //! The cases: files, histories, requests followed to their starts, a history so long that transaction numbers run round, times at their
 //! bounds, and sheets.
 
-use crate::both::{same, same_sheet, Answered, Both, Difference, Outcome, Question};
+use crate::asked::{Asked, Holds};
+use crate::blank::{Blank, Moment};
+use crate::both::{same, same_sheet, After, Answered, Both, Difference, Outcome, Question};
+use crate::counter_tally::Told;
 use crate::damage::{damaged, noise};
 use crate::decided::Watcher;
 use crate::events::{five, Actor};
+use crate::part::Part;
 use crate::plans;
 use crate::random::Random;
 use crate::sheets::{self, Sheet};
 use crate::starts::Starts;
 use crate::tally::Tally;
+use crate::theirs;
 use crate::times;
 use crate::turns::{Turn, Turned};
 use spwd::{Answer, Event, Record, Refusal, READ, RECORDS_ROOM, WRITTEN_MOST};
@@ -34,6 +39,9 @@ pub struct Case<'a> {
     starts: Starts,
     file: Vec<u8>,
     call: String,
+    moment: Moment,
+    /// Whether the five are as a caller lent them, or what events made of these.
+    five_lent: bool,
 }
 
 impl<'a> Case<'a> {
@@ -47,6 +55,8 @@ impl<'a> Case<'a> {
             starts: Starts::default(),
             file: Vec::new(),
             call: String::new(),
+            moment: Moment::default(),
+            five_lent: false,
         }
     }
 
@@ -112,6 +122,7 @@ impl<'a> Case<'a> {
     }
 
     fn some_events(&mut self, events: u64) -> Outcome<()> {
+        self.after()?;
         self.load_accepted()?;
         for _ in 0..events {
             match self.random.below(1000) {
@@ -121,7 +132,7 @@ impl<'a> Case<'a> {
                     self.load(file)?;
                 }
                 3..6 => self.load_accepted()?,
-                6..20 => self.lend(),
+                6..20 => self.lend()?,
                 20..60 if !self.actor.has_plan() => self.load_accepted()?,
                 60..300 => self.turns()?,
                 _ => {}
@@ -237,7 +248,8 @@ impl<'a> Case<'a> {
             _ => Default::default(),
         };
         self.starts = Starts::default();
-        self.after()?;
+        (self.moment, self.five_lent) = (Moment::Load, false);
+        self.ask_all()?;
         self.turns()
     }
 
@@ -246,13 +258,18 @@ impl<'a> Case<'a> {
         self.both.clear()?;
         self.tally.clears += 1;
         (self.actor, self.watcher, self.starts) = Default::default();
-        self.after()?;
+        (self.moment, self.five_lent) = (Moment::Clear, false);
+        self.ask_all()?;
         self.turns()
     }
 
-    fn lend(&mut self) {
-        self.both.lend(five(&mut self.random));
+    fn lend(&mut self) -> Outcome<()> {
+        let five = five(&mut self.random);
+        self.call = format!("five numbers lent, {five:?}");
+        self.both.lend(five);
         self.tally.lent += 1;
+        (self.moment, self.five_lent) = (Moment::Lend, true);
+        self.after()
     }
 
     fn step(&mut self) -> Outcome<()> {
@@ -278,6 +295,7 @@ impl<'a> Case<'a> {
         if answer.is_ok() {
             self.actor.learn(&event, &records);
         }
+        self.moment = Moment::Event;
         self.after()?;
         self.hold_to_turns(&event, &answer, &records)?;
         Ok(answer)
@@ -356,28 +374,89 @@ impl<'a> Case<'a> {
         Ok(answer)
     }
 
-    /// Everything that can be asked, of the plan of this or of another file.
+    /// Everything that can be asked, of the plan of the loaded file or of another.
     fn after(&mut self) -> Outcome<()> {
-        let random = &mut self.random;
+        let asked = Asked::mostly_loaded(&mut self.random);
+        self.ask(asked)
+    }
+
+    /// The same of the loaded file and of each other.
+    fn ask_all(&mut self) -> Outcome<()> {
+        Asked::ALL
+            .iter()
+            .try_for_each(|&(asked, _)| self.ask(asked))
+    }
+
+    fn ask(&mut self, asked: Asked) -> Outcome<()> {
+        let room = self.room();
+        let (asked, file) = asked.file(&self.file, &mut self.random);
+        let turn = self.actor.turn(&mut self.random);
+        let question = Question {
+            room,
+            file: &file,
+            turn,
+        };
+        let after = self.both.after(&question);
+        let after = after.and_then(|after| self.hold_to_calls(asked, after));
+        if after.is_err() {
+            self.call += &format!(", then {asked:?} {file:02x?}");
+        }
+        let after = after?;
+        let told = self.told_of(asked, &file, after);
+        self.tally.written(after.written);
+        self.tally.counter.told(told);
+        Ok(())
+    }
+
+    /// Room for writing out.
+    fn room(&mut self) -> usize {
         let size = self.file.len();
-        let room = match random.below(8) {
+        let random = &mut self.random;
+        match random.below(8) {
             0 => random.below(size + 1),
             1 => size.saturating_sub(1),
             2 => size,
             3 => WRITTEN_MOST,
             _ => size + random.below(20),
+        }
+    }
+
+    /// Whether the box is blank, and holds the plan of a file, where the calls before say which it is.
+    fn hold_to_calls(&self, asked: Asked, after: After) -> Outcome<After> {
+        let has_plan = self.actor.has_plan();
+        let blank = self.blank().is_blank();
+        same("blank by the calls before", after.blank, blank)?;
+        let holds = match has_plan {
+            true => asked.is_held().unwrap_or(after.holds),
+            false => false,
         };
-        let other = match random.below(50) {
-            0 => Some(plans::reordered(&self.file, random)),
-            1 => Some(damaged(&self.file, random)),
-            2 => Some(plans::plan(random)),
+        same("holds by the calls before", after.holds, holds)?;
+        Ok(after)
+    }
+
+    fn blank(&self) -> Blank {
+        let five = self.both.watchdog().into();
+        Blank::of(self.moment, self.actor.has_plan(), five)
+    }
+
+    /// What the answers show of the box and of the file.
+    fn told_of(&self, asked: Asked, file: &[u8], after: After) -> Told {
+        let holds = Holds::of(after.holds, self.actor.has_plan(), after.accepted);
+        let part = match holds {
+            Holds::OtherPlan if asked != Asked::Other => {
+                let plans = theirs::canonical(&self.file).zip(theirs::canonical(file));
+                plans.and_then(|(one, other)| Part::between(&one, &other))
+            }
             _ => None,
         };
-        let file = other.as_deref().unwrap_or(&self.file);
-        let turn = self.actor.turn(random);
-        let after = self.both.after(&Question { room, file, turn })?;
-        self.tally.after(after);
-        Ok(())
+        Told {
+            blank: self.blank(),
+            asked,
+            holds,
+            part,
+            live: self.actor.has_live(),
+            lent: self.five_lent,
+        }
     }
 }
 

@@ -44,6 +44,11 @@ impl Actor {
         self.times.is_some()
     }
 
+    /// Whether some transaction is live.
+    pub fn has_live(&self) -> bool {
+        !self.live.is_empty()
+    }
+
     pub fn event(&self, five: Watchdog, random: &mut Random) -> Event {
         let strange = random.chance(40);
         match random.below(16) {
@@ -227,11 +232,21 @@ fn clock(five: Watchdog, random: &mut Random) -> u32 {
     last.wrapping_add(elapsed)
 }
 
-/// Five numbers that a caller may lend.
+/// Five numbers that a caller may lend: all 0, all but one, or any.
 pub fn five(random: &mut Random) -> [u32; 5] {
     const EDGES: [u32; 8] = [0, 1, 2, 90, 110, 0x7fff_ffff, 0x8000_0000, u32::MAX];
-    std::array::from_fn(|_| match random.chance(800) {
+    let any: [u32; 5] = std::array::from_fn(|_| match random.chance(800) {
         true => random.pick(&EDGES),
         false => random.word(),
-    })
+    });
+    let mut five = [0; 5];
+    match random.below(6) {
+        0 => {}
+        1 | 2 => {
+            let place = random.below(5);
+            five[place] = any[place];
+        }
+        _ => five = any,
+    }
+    five
 }

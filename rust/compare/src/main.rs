@@ -1,9 +1,10 @@
-//! compare [SEED [FILES [EVENTS]]]: files and histories drawn from the seed, taken by the proved box and by the reference. At least
-//! so many files and events are compared, and then as many time sheets as files. The first difference ends it: what was done, on what
-//! file, both results, and status 1. The same where a verdict, refusal or record kind was not reached, a side of what the times of a plan
-//! or a sheet decide, a verdict on a reply or a clash by its way, or a refusal or count of the next turn or a start at one, and where a
-//! plan drawn to be accepted was refused. The last line is "N passed, M failed", N the cases without a difference: files, histories,
-//! requests followed to their starts, one history in which transaction numbers run round, plans with times at each bound, and all sheets.
+//! compare [SEED [FILES [EVENTS]]]: files and histories drawn from the seed, taken by the proved box and by the reference. At least so many
+//! files and events are compared, and then as many time sheets as files. The first difference ends it: what was done, on what file, both
+//! results, and status 1. The same where a verdict, refusal or record kind was not reached, a side of what the times of a plan or a sheet
+//! decide, a verdict on a reply or a clash by its way, a refusal or count of the next turn or a start at one, or a reason for a box to be
+//! blank or not, or to hold the plan of a file or not, and where a plan drawn to be accepted was refused. The last line is "N passed, M
+//! failed", N the cases without a difference: files, histories, requests followed to their starts, one history in which transaction numbers
+//! run round, plans with times at each bound, and all sheets.
 
 use compare::cases::{Case, Failure};
 use compare::random::Random;

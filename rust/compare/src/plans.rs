@@ -71,14 +71,15 @@ pub fn each_slot(random: &mut Random) -> Vec<u8> {
     in_order_of_tags(fields, random)
 }
 
-/// The same plan with its fields, and the targets of its entries, in another order.
+/// The same plan with its fields, the devices of its links and the targets of its entries in another order.
 pub fn reordered(file: &[u8], random: &mut Random) -> Vec<u8> {
     let (mut fields, rest) = split(file);
-    for field in fields
-        .iter_mut()
-        .filter(|field| field[0] == 4 && field.len() > 6)
-    {
-        random.shuffle(&mut field[6..]);
+    for field in &mut fields {
+        match (field[0], field.len()) {
+            (2, 6) => random.shuffle(&mut field[4..]),
+            (4, 7..) => random.shuffle(&mut field[6..]),
+            _ => {}
+        }
     }
     [in_order_of_tags(fields, random), rest.to_vec()].concat()
 }

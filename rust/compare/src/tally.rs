@@ -1,6 +1,7 @@
 //! What was reached, and how often.
 
-use crate::both::{After, Answered};
+use crate::both::Answered;
+use crate::counter_tally::CounterTally;
 use crate::decided::ByTime;
 use crate::field_tally::{row, RepliesTally, TimesTally, VERDICTS, WHOLE};
 use crate::fields::split;
@@ -24,8 +25,7 @@ pub struct Tally {
     /// Of the status of replies that were taken.
     classes: [u64; 3],
     readings: [u64; 2],
-    blank: [u64; 2],
-    holds: [u64; 2],
+    pub counter: CounterTally,
     by_time: [u64; ByTime::ALL.len()],
     pub turns: TurnTally,
     /// Refused, accepted: with the same routers each way, and with others on the reply's.
@@ -76,12 +76,11 @@ impl Tally {
         }
     }
 
-    pub fn after(&mut self, after: After) {
-        if after.written != 0 {
-            self.refusals[usize::from(after.written)] += 1;
+    /// The number of an answer of writing out.
+    pub fn written(&mut self, number: u8) {
+        if number != 0 {
+            self.refusals[usize::from(number)] += 1;
         }
-        self.blank[usize::from(after.blank)] += 1;
-        self.holds[usize::from(after.holds)] += 1;
     }
 
     /// So many transactions started under a plan with replies.
@@ -118,8 +117,6 @@ impl Tally {
         want("record kind", &self.kinds, 1, 5);
         want("class of status", &self.classes, 0, 2);
         want("reading", &self.readings, 0, 1);
-        want("blank", &self.blank, 0, 1);
-        want("holds", &self.holds, 0, 1);
         want("sheet", &self.sheets, 0, 1);
         want("sheet of two ways", &self.two_way_sheets, 0, 1);
         want("number after 65535", &[self.rounds], 0, 0);
@@ -135,6 +132,7 @@ impl Tally {
         missing.extend(self.times.missing());
         missing.extend(self.replies.missing());
         missing.extend(self.turns.missing());
+        missing.extend(self.counter.missing());
         for (what, name) in ByTime::ALL {
             if self.by_time[what as usize] == 0 {
                 missing.push(format!("no request was {name}"));
@@ -179,8 +177,7 @@ impl fmt::Display for Tally {
         write!(formatter, "{}", self.turns)?;
         writeln!(formatter, "classes   {}", row(&self.classes, 0))?;
         writeln!(formatter, "readings  {}", row(&self.readings, 0))?;
-        writeln!(formatter, "blank     {}", row(&self.blank, 0))?;
-        writeln!(formatter, "holds     {}", row(&self.holds, 0))?;
+        write!(formatter, "{}", self.counter)?;
         writeln!(formatter, "number 0 after number 65535: {}", self.rounds)?;
         let ([refused, accepted], [refused2, accepted2]) = (self.sheets, self.two_way_sheets);
         writeln!(

@@ -127,24 +127,30 @@ pub fn five(five: &Watchdog) -> [u32; 5] {
     ]
 }
 
-pub fn is_blank(unit: &Unit, watchdog: &Watchdog) -> bool {
-    static BLANK: Unit = Unit::new();
-    *unit == BLANK && *watchdog == Watchdog::new()
-}
-
 /// Whether the reference accepts the file.
 pub fn accepts(file: &[u8]) -> bool {
     let verdict = Unit::new().load(file, &mut Watchdog::new());
     verdict.number() == 0
 }
 
-/// A second box with the file loaded, and whether the first has the same plan: it writes out the same bytes.
-pub fn holds(unit: &Unit, file: &[u8]) -> (Unit, bool) {
-    let mut other = Unit::new();
-    other.load(file, &mut Watchdog::new());
+/// The plan of the file written out, if the reference accepts it.
+pub fn canonical(file: &[u8]) -> Option<Vec<u8>> {
+    let mut unit = Unit::new();
+    unit.load(file, &mut Watchdog::new());
+    let mut out = vec![0; WRITTEN_OUT];
+    match unit.write_out(&mut out) {
+        (0, size) => {
+            out.truncate(size);
+            Some(out)
+        }
+        _ => None,
+    }
+}
+
+/// Whether both have a plan, and write out the same bytes.
+pub fn written_alike(unit: &Unit, other: &Unit) -> bool {
     let (mut out, mut other_out) = ([0; WRITTEN_OUT], [0; WRITTEN_OUT]);
     let (number, size) = unit.write_out(&mut out);
     let other_answer = other.write_out(&mut other_out);
-    let holds = number == 0 && other_answer == (0, size) && out[..size] == other_out[..size];
-    (other, holds)
+    number == 0 && other_answer == (0, size) && out[..size] == other_out[..size]
 }

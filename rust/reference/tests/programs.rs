@@ -356,8 +356,11 @@ fn turned(file: &[u8]) -> Vec<u8> {
     fields.concat()
 }
 
-/// Questions for files, each with its answer.
-fn asked(questions: &[(Vec<u8>, bool)]) -> Vec<(String, &'static str)> {
+/// Lines of a script, each with its answer.
+type Answered = Vec<(String, &'static str)>;
+
+/// Questions for files.
+fn asked(questions: &[(Vec<u8>, bool)]) -> Answered {
     let line = |(file, holds): &(Vec<u8>, bool)| {
         let answer = if *holds { "1" } else { "0" };
         (format!("holds {}", hex(file)), answer)
@@ -366,7 +369,7 @@ fn asked(questions: &[(Vec<u8>, bool)]) -> Vec<(String, &'static str)> {
 }
 
 /// What is asked of a box with the plan that has its first entry at slot 5.
-fn asked_of_five() -> Vec<(String, &'static str)> {
+fn asked_of_five() -> Answered {
     asked(&[
         (apart(5), true),
         (turned(&apart(5)), true),
@@ -386,7 +389,7 @@ fn holds_or_not() {
     let [load, load_moved, load_refused] =
         [5, 6, 59].map(|slot| format!("load {}", hex(&apart(slot))));
     let held = asked_of_five();
-    let none: Vec<(String, &str)> = held.iter().map(|(line, _)| (line.clone(), "0")).collect();
+    let none: Answered = held.iter().map(|(line, _)| (line.clone(), "0")).collect();
     let moved = asked(&[
         (apart(6), true),
         (turned(&apart(6)), true),
@@ -427,7 +430,7 @@ fn holds_whatever_waits_or_is_live() {
 }
 
 /// Runs questions and the command that follows them, part by part.
-fn replay_parts(parts: &[(Vec<(String, &str)>, (&str, &str))]) {
+fn replay_parts(parts: &[(Answered, (&str, &str))]) {
     let mut script: Vec<(&str, &str)> = Vec::new();
     for (questions, command) in parts {
         script.extend(questions.iter().map(|(line, answer)| (&line[..], *answer)));
