@@ -82,6 +82,9 @@ static size_t jig_read_back(void *bytes, size_t size)
 
 /* ---- what the jig has, and what it says */
 
+/* The bytes of a box without the padding at its end. */
+enum { NUMBERS_END = offsetof(spwd_box, last) + 1 };
+
 static uint8_t file[SPWD_FILE_MOST + 1]; /* the plan file; one byte more than a plan has decides that it has too many */
 static size_t file_size;
 static spwd_box back; /* the bytes that were read back last, and how many came */
@@ -96,20 +99,20 @@ static void say_verdict(const char *what, spwd_verdict verdict)
     fwrite(line, 1, size - 1, stdout);
 }
 
-/* What stands in the box by the bytes that were read back: the plan, judged again, or that there is none. */
-static void say_what_is_in_it(void)
+/* Where what was read back first differs from what should be there. Memory that came from no clear, no load and no event is asked nothing else:
+ * spwd_is_blank and spwd_holds alone may be asked of any memory. What is in it, spwd-counter says of the image. */
+static void say_first_difference(const spwd_box *right)
 {
-    static uint8_t out[SPWD_WRITTEN_MOST];
-    static spwd_box again;
-    spwd_written written = spwd_write_out(&back, out, sizeof out);
-    spwd_verdict verdict;
-    if (written.number != SPWD_TAKEN) {
-        printf("    in it: refused %lu: %s\n", (unsigned long)written.number, spwd_words(written.number));
-        return;
+    uint8_t found[sizeof(spwd_box)], wanted[sizeof(spwd_box)];
+    size_t place = 0;
+    memcpy(found, &back, sizeof found);
+    memcpy(wanted, right, sizeof wanted);
+    while (place < NUMBERS_END && found[place] == wanted[place]) {
+        place++;
     }
-    verdict = spwd_load(&again, out, written.size);
-    say_verdict(verdict.number == SPWD_ACCEPTED ? "    in it" : "    in it: no load leaves such memory; written out", verdict);
-    printf(": %s\n", spwd_words(verdict.number));
+    if (place < NUMBERS_END) {
+        printf("    byte %lu is %u and should be %u\n", (unsigned long)place, found[place], wanted[place]);
+    }
 }
 
 static bool lamp(const char *name, bool lit, const char *why)
@@ -137,8 +140,10 @@ static bool is_blank(void)
         return lamp("BLANK", false, "the bytes came cut off");
     }
     if (!spwd_is_blank(&back)) {
+        static spwd_box blank;
+        spwd_clear(&blank);
         lamp("BLANK", false, "the box is not blank");
-        say_what_is_in_it();
+        say_first_difference(&blank);
         return false;
     }
     return lamp("BLANK", true, "");
@@ -163,11 +168,15 @@ static bool holds(void)
     }
     if (!spwd_holds(&back, file, file_size, &other)) {
         lamp("HOLDS", false, "the box does not hold this plan");
-        say_what_is_in_it();
+        say_first_difference(&box);
         return false;
     }
-    /* All but the padding. */
-    return lamp("HOLDS", memcmp(&back, &box, offsetof(spwd_box, last) + sizeof box.last) == 0, "the box is not as the load left it");
+    if (memcmp(&back, &box, NUMBERS_END) != 0) {
+        lamp("HOLDS", false, "the box is not as the load left it");
+        say_first_difference(&box);
+        return false;
+    }
+    return lamp("HOLDS", true, "");
 }
 
 /* ---- files and arguments */

@@ -151,7 +151,8 @@ typedef struct spwd_plan {
  *     15,632      20   watchdog        5 numbers of 4 bytes
  *     15,652       1   last
  *     15,653       3   padding         of no number: it may hold anything, and nothing looks at it
- * After a clear all of it is 0, the padding apart. */
+ * After a clear all of it is 0, the padding apart. Of bytes that were read back, spwd_is_blank and spwd_holds alone may be asked before it is
+ * known what they are: all other functions are proved of boxes that came from a clear, a load or an event. */
 typedef struct spwd_box {
     spwd_plan plan;
     uint64_t run[96];
