@@ -80,11 +80,11 @@ static inline const char *spwd_to_do(uint32_t number)
 {
     switch (number) {
     case 0:
-        return "compare the four counts with the team's own";
+        return "compare the fingerprint with the team's own: two plans that differ in one slot share the four counts";
     case 1:
         return "it is not a plan, or two files were joined; ask for the plan alone";
     case 2:
-        return "it was cut off when copied; copy it again";
+        return "it was cut off when copied, or is no plan file but text; copy it again";
     case 3:
         return "the file is damaged, or made for another box; kinds are 01 to 07";
     case 4:

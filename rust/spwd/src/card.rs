@@ -8,7 +8,7 @@ pub static VERDICTS: [Row; 16] = [
         number: 0,
         about: "devices links paths entries",
         means: "the plan is in the box",
-        to_do: "compare the four counts with the team's own",
+        to_do: "compare the fingerprint with the team's own: two plans that differ in one slot share the four counts",
     },
     Row {
         number: 1,
@@ -20,7 +20,7 @@ pub static VERDICTS: [Row; 16] = [
         number: 2,
         about: "offset",
         means: "the file ends in the middle of a field",
-        to_do: "it was cut off when copied; copy it again",
+        to_do: "it was cut off when copied, or is no plan file but text; copy it again",
     },
     Row {
         number: 3,
