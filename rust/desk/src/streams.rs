@@ -10,10 +10,10 @@ use std::process::ExitCode;
 #[derive(Clone, Copy, Debug, PartialEq, Eq)]
 pub enum Status {
     Done = 0,
-    /// Lines that are no item or no command.
-    Complaints = 1,
     /// The box refuses the plan, or what is asked of it.
-    Refused = 2,
+    Refused = 1,
+    /// Lines that are no item or no command.
+    Complaints = 2,
     /// Wrong words behind the program's name, a file that cannot be read, output that cannot be written.
     Failed = 3,
 }

@@ -33,7 +33,7 @@ fn every_plan_with_its_verdict() {
         let status = if verdict.starts_with("ACCEPTED") {
             0
         } else {
-            2
+            1
         };
         assert_eq!(ran.status, status, "{plan}");
         let first = ran.err.lines().next().unwrap();
@@ -88,7 +88,7 @@ fn every_item() {
         10, 251, 255, 0,
     ];
     assert_eq!(ran.out, file);
-    assert_eq!(ran.status, 2);
+    assert_eq!(ran.status, 1);
     round_trip(&ran.out);
 }
 
@@ -101,7 +101,7 @@ fn a_long_path() {
         format!("path{}", " 9".repeat(258)).as_bytes(),
     );
     assert_eq!(ran.out, [&[3, 1, 2], &[9; 258][..]].concat());
-    assert_eq!(ran.status, 2);
+    assert_eq!(ran.status, 1);
 }
 
 /// Lines that end as on Windows, and a byte order mark in front.
@@ -184,7 +184,7 @@ fn back_in_words() {
 fn complaints() {
     let ran = run(COMPILE, &["rust/desk/tests/plans/complaints.plan"], b"");
     assert_eq!(ran.err, expected("compile/complaints.txt"));
-    assert_eq!((ran.text(), ran.status), ("", 1));
+    assert_eq!((ran.text(), ran.status), ("", 2));
 }
 
 #[test]
@@ -198,7 +198,7 @@ fn twenty_complaints_and_how_many_more() {
         "{}",
         ran.err
     );
-    assert_eq!((ran.text(), ran.status), ("", 1));
+    assert_eq!((ran.text(), ran.status), ("", 2));
 }
 
 /// The box refuses: the bytes are there, and the line that it is about.
@@ -229,7 +229,7 @@ fn refused_with_its_line() {
     ] {
         let ran = run(COMPILE, &[plan], b"");
         assert_eq!(ran.err, expected(stored), "{plan}");
-        assert_eq!((ran.out, ran.status), (bytes(plan), 2), "{plan}");
+        assert_eq!((ran.out, ran.status), (bytes(plan), 1), "{plan}");
     }
 }
 
@@ -254,5 +254,5 @@ fn lines_of_bytes() {
         "{}",
         ran.err
     );
-    assert_eq!(ran.status, 2);
+    assert_eq!(ran.status, 1);
 }

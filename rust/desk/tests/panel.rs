@@ -64,7 +64,7 @@ fn with_the_card() {
 /// Lines that are no command, and the last line without its newline.
 #[test]
 fn no_commands() {
-    plays(&[], "no-commands.txt", "panel/no-commands.txt", 1);
+    plays(&[], "no-commands.txt", "panel/no-commands.txt", 2);
 }
 
 #[test]
@@ -122,7 +122,7 @@ fn a_very_long_line() {
         "0".repeat(56)
     );
     assert_eq!(ran.text(), said);
-    assert_eq!((ran.err.as_str(), ran.status), ("", 1));
+    assert_eq!((ran.err.as_str(), ran.status), ("", 2));
 }
 
 /// The longest file that a script may load, one byte more, and the empty one.

@@ -54,18 +54,18 @@ fn two_ways() {
     let back = "    routers back 8 is out of range: right is 0 to 7\n";
     let ran = alone("8", &["256"]);
     assert_eq!(ran.text(), format!("{refused}{back}"));
-    assert_eq!((ran.err.as_str(), ran.status), ("", 2));
+    assert_eq!((ran.err.as_str(), ran.status), ("", 1));
     let ran = by_itself("255", "200", &["--reply-routers", "8", "256"]);
     let out = "    routers out 255 is out of range: right is 0 to 7\n";
     assert_eq!(ran.text(), format!("{refused}{out}{back}"));
-    assert_eq!((ran.err.as_str(), ran.status), ("", 2));
+    assert_eq!((ran.err.as_str(), ran.status), ("", 1));
 }
 
 #[test]
 fn out_of_range() {
     let words = "--routers 8 --rate 1 --latencies 1000001 1000002 1000003 4294967295 256 4097";
     let words: Vec<_> = words.split(' ').collect();
-    prints(&words, "sheet/out-of-range.txt", 2);
+    prints(&words, "sheet/out-of-range.txt", 1);
     let refused = "refused 6: a number is out of range\n";
     for (routers, rate, length, why) in [
         (
@@ -89,7 +89,7 @@ fn out_of_range() {
     ] {
         let ran = by_itself(routers, rate, &["0", length]);
         assert_eq!(ran.text(), format!("{refused}    {why}\n"));
-        assert_eq!((ran.err.as_str(), ran.status), ("", 2));
+        assert_eq!((ran.err.as_str(), ran.status), ("", 1));
     }
     assert_eq!(by_itself("7", "400", &["4096"]).status, 0);
     assert_eq!(by_itself("0", "2", &["0"]).status, 0);
@@ -123,7 +123,7 @@ fn plans_of_the_project() {
     prints(
         &wrong.split(' ').collect::<Vec<_>>(),
         "sheet/given-wrong.txt",
-        2,
+        1,
     );
 }
 
@@ -151,8 +151,8 @@ fn refused_plans() {
 fn no_entry() {
     for name in ["no-entry", "no-entry-times", "sample-intervals"] {
         let (plan, page) = (format!("plans/{name}.plan"), format!("show/{name}.txt"));
-        prints(&[&plan], &page, 2);
-        prints(&[&TIMES[..], &[&plan]].concat(), &page, 2);
+        prints(&[&plan], &page, 1);
+        prints(&[&TIMES[..], &[&plan]].concat(), &page, 1);
     }
 }
 
@@ -166,7 +166,7 @@ fn forms() {
     assert_eq!(run(SHEET, &[], &bytes("plans/times.plan")).text(), page);
     let ran = run(SHEET, &["--bytes", "plans/times.plan"], b"");
     assert!(ran.text().starts_with("REFUSED 2 0\n"), "{}", ran.text());
-    assert_eq!(ran.status, 2);
+    assert_eq!(ran.status, 1);
 }
 
 /// A plan with its own times, given once more, has the sheet that it had.

@@ -11,7 +11,7 @@ fn shows(plan: &str, stored: &str) {
     let status = if ran.text().starts_with("ACCEPTED ") {
         0
     } else {
-        2
+        1
     };
     assert_eq!((ran.err.as_str(), ran.status), ("", status), "{plan}");
 }
@@ -153,7 +153,7 @@ fn no_entry_from_bytes() {
         let page = expected(&format!("show/{name}.txt"));
         let (page, _) = page.split_once(" at line ").unwrap();
         assert_eq!(ran.text(), format!("{page} at offset {timing}\n"));
-        assert_eq!((ran.err.as_str(), ran.status), ("", 2));
+        assert_eq!((ran.err.as_str(), ran.status), ("", 1));
     }
 }
 
@@ -168,7 +168,7 @@ fn no_entry_and_many_targets() {
     text += "intervals 90 110\n";
     let ran = run(SHOW, &["--text"], text.as_bytes());
     assert_eq!(ran.text(), expected("show/no-entry-star.txt"));
-    assert_eq!((ran.err.as_str(), ran.status), ("", 2));
+    assert_eq!((ran.err.as_str(), ran.status), ("", 1));
 }
 
 #[test]
@@ -176,7 +176,7 @@ fn cut_off() {
     let file = &bytes("plans/sample-first.plan")[..100];
     let ran = run(SHOW, &["-"], file);
     assert_eq!(ran.text(), expected("show/cut-off.txt"));
-    assert_eq!((ran.err.as_str(), ran.status), ("", 2));
+    assert_eq!((ran.err.as_str(), ran.status), ("", 1));
 }
 
 #[test]
@@ -186,7 +186,7 @@ fn one_byte_changed() {
     file[32] ^= 0x40;
     let ran = run(SHOW, &["-"], &file);
     assert_eq!(ran.text(), expected("show/one-byte-changed.txt"));
-    assert_eq!((ran.err.as_str(), ran.status), ("", 2));
+    assert_eq!((ran.err.as_str(), ran.status), ("", 1));
 }
 
 #[test]
@@ -195,7 +195,7 @@ fn too_long() {
     file.resize(16_385, 0);
     let ran = run(SHOW, &["-"], &file);
     assert_eq!(ran.text(), expected("show/too-long.txt"));
-    assert_eq!((ran.err.as_str(), ran.status), ("", 2));
+    assert_eq!((ran.err.as_str(), ran.status), ("", 1));
 }
 
 /// `--text` and `--bytes` are stronger than the name.
@@ -207,9 +207,9 @@ fn forms() {
     assert_eq!(run(SHOW, &["--text", "-"], &text).text(), page);
     let ran = run(SHOW, &["--bytes", "plans/sample-first.plan"], b"");
     assert!(ran.text().starts_with("REFUSED 2 0\n"), "{}", ran.text());
-    assert_eq!(ran.status, 2);
+    assert_eq!(ran.status, 1);
     let ran = run(SHOW, &["--text"], &bytes("plans/sample-intervals.plan"));
-    assert_eq!((ran.text(), ran.status), ("", 1));
+    assert_eq!((ran.text(), ran.status), ("", 2));
     assert!(ran.err.starts_with("standard input:1: "), "{}", ran.err);
 }
 

@@ -153,7 +153,7 @@ fn refusals() {
         } else {
             "next turn of initiator"
         };
-        says(plan, words, &format!("{head} {what}: {said}"), 2);
+        says(plan, words, &format!("{head} {what}: {said}"), 1);
     }
 }
 
@@ -162,12 +162,12 @@ fn refusals() {
 fn no_plan_to_ask() {
     for plan in ["juice", "no-entry", "reply-clash", "sample-empty"] {
         let shown = run(SHOW, &[&format!("plans/{plan}.plan")], b"");
-        assert_eq!(shown.status, 2);
-        says(plan, "1 20 40", shown.text(), 2);
-        says(plan, "1 20 40 64", shown.text(), 2);
+        assert_eq!(shown.status, 1);
+        says(plan, "1 20 40", shown.text(), 1);
+        says(plan, "1 20 40 64", shown.text(), 1);
     }
     let ran = run(SHOW, &["--next", "1", "20", "40", "--text"], b"what 1\n");
-    assert_eq!((ran.text(), ran.status), ("", 1));
+    assert_eq!((ran.text(), ran.status), ("", 2));
     assert!(
         ran.err.starts_with("standard input:1: what 1\n"),
         "{}",

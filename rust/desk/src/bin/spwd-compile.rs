@@ -39,8 +39,8 @@ A line that is none of these is said on standard error with what would be right,
 Else the bytes are written, and the verdict of the box on them is said on standard error; if it refuses
 them, also the line that it is about.
 
-Status: 0 accepted (with --text: done), 1 the text has lines that are no item, 2 the box refuses the plan
-(its bytes are written all the same), 3 wrong arguments, or a file that cannot be read or written.
+Status: 0 accepted (with --text: done), 1 the box refuses the plan (its bytes are written all the same), 2 the
+text has lines that are no item, 3 wrong arguments, or a file that cannot be read or written.
 A reader that closes the pipe early is no failure.
 ";
 

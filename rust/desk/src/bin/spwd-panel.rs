@@ -33,7 +33,7 @@ One command a line, words separated by one space, numbers decimal:
 An empty line and one that begins with # are skipped. A line that is none of these changes nothing.
 Of a request that waits alone in its line it is said where it starts, once a time-code has said the slot.
 
-Status: 0 every line was a command or skipped, 1 some were not, 3 wrong arguments, or a file that cannot be
+Status: 0 every line was a command or skipped, 2 some were not, 3 wrong arguments, or a file that cannot be
 read. Refusals are answers of the box and no failure, nor is a reader that closes the pipe early.
 ";
 

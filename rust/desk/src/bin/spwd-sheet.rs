@@ -40,9 +40,9 @@ the least slot length with which every entry permits 256 bytes for each slot of 
     SLOT   the length of a slot, in ns
     LENGTH 0 to 4,096
 
-Status: 0 done, and the plan accepted; 1 the text has lines that are no item; 2 the box refuses the plan, or
-a number of the sheet is out of range; 3 wrong arguments, or a file that cannot be read. A reader that closes
-the pipe early is no failure.
+Status: 0 done, and the plan accepted; 1 the box refuses the plan, or a number of the sheet is out of range;
+2 the text has lines that are no item; 3 wrong arguments, or a file that cannot be read or written. A reader
+that closes the pipe early is no failure.
 ";
 
 const OPTIONS: [(&str, usize); 7] = [

@@ -36,9 +36,9 @@ alone: nothing waits or runs.
     D      data bytes: 0 to 4,096
     SLOT   0 to 63, in decimal digits; a file with such a name is ./NAME
 
-Status: 0 accepted, and what was asked of the plan is answered; 1 the text has lines that are no item; 2 the box
-refuses the plan, or what was asked; 3 wrong arguments, or a file that cannot be read. A reader that closes the
-pipe early is no failure.
+Status: 0 accepted, and what was asked of the plan is answered; 1 the box refuses the plan, or what was asked;
+2 the text has lines that are no item; 3 wrong arguments, or a file that cannot be read or written. A reader
+that closes the pipe early is no failure.
 ";
 
 const OPTIONS: [(&str, usize); 3] = [("--text", 0), ("--bytes", 0), ("--next", 3)];
