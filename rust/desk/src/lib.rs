@@ -8,6 +8,7 @@ pub mod arguments;
 pub mod clash;
 pub mod fault;
 pub mod fields;
+pub mod fingerprint;
 pub mod form;
 pub mod grid;
 pub mod judge;
