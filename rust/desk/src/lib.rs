@@ -11,6 +11,7 @@ pub mod fields;
 pub mod fingerprint;
 pub mod form;
 pub mod grid;
+pub mod html;
 pub mod judge;
 pub mod layout;
 pub mod names;

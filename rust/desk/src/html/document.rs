@@ -1,0 +1,25 @@
+//! A whole page: its head with the style, the patterns of the initiators, and what is inside.
+
+use crate::html::element::{element, words, Element};
+use crate::html::style::{patterns, SHEET};
+
+/// The text of a page, to the last newline.
+pub fn document(title: &str, inside: impl IntoIterator<Item = Element>) -> String {
+    let head = element("head")
+        .add(element("meta").with("charset", "utf-8"))
+        .add(
+            element("meta")
+                .with("name", "viewport")
+                .with("content", "width=device-width"),
+        )
+        .add(words("title", title))
+        .add(element("style").style(SHEET));
+    let body = element("body").add(patterns()).add_all(inside);
+    let html = element("html").with("lang", "en").add(head).add(body);
+    format!("<!DOCTYPE html>\n{html}\n")
+}
+
+/// A part of a page below a heading; its id is that of the part.
+pub fn section(id: &'static str, heading: impl ToString) -> Element {
+    element("section").with("id", id).add(words("h2", heading))
+}
