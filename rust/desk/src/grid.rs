@@ -54,7 +54,7 @@ fn sets<'a>(plan: &Plan<'a>) -> Vec<&'a [u8]> {
 }
 
 /// A to Z, then AA to ZZ.
-fn letter(index: usize) -> String {
+pub fn letter(index: usize) -> String {
     let one = |index: usize| char::from(b'A' + (index % 26) as u8);
     match index / 26 {
         0 => one(index).to_string(),

@@ -12,7 +12,7 @@ use spwd::{sheet2, Latencies, Sheet, SheetOutOfRange};
 use spwd::{LENGTH_MOST, ROUTERS_MOST, SLOT_LENGTH_MOST};
 
 /// Lengths whose times are shown of a path.
-const LENGTHS: [u16; 5] = [0, 64, 256, 1_024, 4_096];
+pub const LENGTHS: [u16; 5] = [0, 64, 256, 1_024, 4_096];
 /// Characters of a term's name and of a number, and how many lengths stand beside each other.
 const NAME: usize = 41;
 const COLUMN: usize = 9;
@@ -178,7 +178,7 @@ fn times_of_paths(plan: &Plan, times: &Times) -> Vec<String> {
 }
 
 /// The routers of a path; and those of its reply, where they are not as many.
-fn in_column(routers: Routers) -> String {
+pub fn in_column(routers: Routers) -> String {
     let Routers { command, reply } = routers;
     if command == reply {
         command.to_string()

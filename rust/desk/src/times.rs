@@ -19,7 +19,7 @@ impl Times {
     }
 
     /// How long a span is.
-    fn time_of(&self, span: u8) -> u64 {
+    pub fn time_of(&self, span: u8) -> u64 {
         u64::from(span) * u64::from(self.slot_length)
     }
 

@@ -2,6 +2,7 @@
 #![forbid(unsafe_code)]
 
 use desk::arguments::{given, numbers, one_file, own, Given, Options};
+use desk::html;
 use desk::judge::judge;
 use desk::page::page;
 use desk::source::Source;
@@ -17,6 +18,7 @@ const HELP: &str = "\
 spwd-show [--text | --bytes] [FILE]   the verdict of the box on a plan, in words, and what is behind it
 spwd-show --next I T D ..             the turns of initiator I for a request of D bytes to target T
 spwd-show --next I T D SLOT ..        the next one after this slot
+spwd-show --page ..                   the same as a page to print and tape to the box: one HTML file
 spwd-show --help                      this
 
 FILE is a plan file, or the text form of a plan if its name ends in .plan; --text says that it is the text
@@ -27,6 +29,12 @@ own, intervals, slot times, the table of sixty-four slots, and targets of entrie
 permit.
 Of a refused plan the field, or the entries, paths and replies, that the refusal is about are shown; of a plan
 with no entry what it has, and the initiators that are left without one.
+
+A page has the plan's fingerprint, its network and its table drawn, its paths, the times of a plan with slot
+times, and the turns of each pair; of a refused plan what can be read, with what is at fault marked. It needs
+nothing else, no network and no script, and prints on A4.
+    --title WORDS   in the place of the file's name
+    --date WORDS    a date, as you write it; without it the page has none
 
 A turn is a slot at which an entry of the initiator stands that permits the target with this length. How far on
 the next one is, the box counts from a slot: 1 is the slot after it, 64 that slot again. It goes by the plan
@@ -41,7 +49,14 @@ Status: 0 accepted, and what was asked of the plan is answered; 1 the box refuse
 that closes the pipe early is no failure.
 ";
 
-const OPTIONS: [(&str, usize); 3] = [("--text", 0), ("--bytes", 0), ("--next", 3)];
+const OPTIONS: [(&str, usize); 6] = [
+    ("--text", 0),
+    ("--bytes", 0),
+    ("--next", 3),
+    ("--page", 0),
+    ("--title", 1),
+    ("--date", 1),
+];
 
 /// The most bytes that are read; a plan has far fewer.
 const MOST: u64 = 16 << 20;
@@ -65,18 +80,40 @@ fn run(options: &Options, mut others: Vec<OsString>) -> Result<Status, String> {
     if text && bytes {
         return Err(see("--text and --bytes exclude each other"));
     }
+    let page = given_page(options).map_err(|wrong| see(&wrong))?;
     let question = question(options, &mut others).map_err(|wrong| see(&wrong))?;
+    let show = |source: &Source| match &page {
+        Some(given) => show_page(source, given),
+        None => show(source, question),
+    };
     let input = Input::of(one_file(others).map_err(|wrong| see(&wrong))?);
     let (name, read) = (input.name(), input.read(MOST)?);
     if !text && (bytes || !input.is_plan()) {
-        return show(&Source::file(name, read), question);
+        return show(&Source::file(name, read));
     }
     match Source::text(name, &read) {
-        Ok(source) => show(&source, question),
+        Ok(source) => show(&source),
         Err(complaints) => {
             say(&complaints);
             Ok(Status::Complaints)
         }
+    }
+}
+
+/// The words of `--title` and `--date`, if a page is asked for.
+fn given_page(options: &Options) -> Result<Option<html::head::Given>, String> {
+    let word = |name| -> Result<Option<String>, String> {
+        let words = own(options, name)?.and_then(<[OsString]>::first);
+        Ok(words.map(|word| word.to_string_lossy().into_owned()))
+    };
+    let (title, date) = (word("--title")?, word("--date")?);
+    match (own(options, "--page")?, own(options, "--next")?) {
+        (Some(_), Some(_)) => Err("--page and --next exclude each other".to_string()),
+        (Some(_), None) => Ok(Some(html::head::Given { title, date })),
+        _ if title.is_some() || date.is_some() => {
+            Err("--title and --date go with --page".to_string())
+        }
+        _ => Ok(None),
     }
 }
 
@@ -122,6 +159,12 @@ fn show(source: &Source, question: Option<Question>) -> Result<Status, String> {
         None => page(source),
     };
     put_lines(&lines)?;
+    Ok(if taken { Status::Done } else { Status::Refused })
+}
+
+fn show_page(source: &Source, given: &html::head::Given) -> Result<Status, String> {
+    let (text, taken) = html::page::page(source, given);
+    put(text.as_bytes())?;
     Ok(if taken { Status::Done } else { Status::Refused })
 }
 

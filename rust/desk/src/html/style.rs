@@ -117,6 +117,24 @@ svg text.halo { paint-order: stroke; stroke: #fff; stroke-width: 3px; stroke-lin
 .i5 { fill: url(#p5); stroke: #0b6b66; }
 .i6 { fill: url(#p6); stroke: #6f6000; }
 .i7 { fill: url(#p7); stroke: #5c4331; }
+.device rect { stroke-width: 1.4px; }
+.device rect.plain { fill: #fff; stroke: #000; }
+.router rect.plain { fill: #e4e4e4; }
+.missing rect.plain { stroke-dasharray: 3 2; }
+.device.fault rect { stroke: #b00000; stroke-width: 3px; stroke-dasharray: 6 2; }
+.link path { fill: none; stroke: #333; stroke-width: 1.2px; }
+.link.way path { stroke-width: 3px; }
+.link.fault path { stroke: #b00000; stroke-width: 5px; stroke-dasharray: 8 2.5; }
+.link.fault .frame { fill: #b00000; }
+.link.fault text { fill: #fff; }
+.bar path { stroke-width: 1.2px; }
+.bar.fault path { stroke: #b00000; stroke-width: 3px; stroke-dasharray: 6 2; }
+.bar.fault text { font-weight: bold; }
+.slot { fill: none; stroke: #b00000; stroke-width: 2px; stroke-dasharray: 2 2; }
+.letters { columns: 3; margin: 1mm 0; padding: 0; font-size: 8.5pt; list-style: none; }
+.letters li { break-inside: avoid; }
+li.fault { font-weight: bold; color: #b00000; }
+mark { background: none; color: #b00000; font-weight: bold; text-decoration: underline; }
 tr.fault td, tr.fault th { border-top: 0.6mm solid #b00000; border-bottom: 0.6mm solid #b00000; }
 .fault-words { font-weight: bold; color: #b00000; }
 @page { size: A4 portrait; margin: 12mm; @bottom-right { content: 'page ' counter(page) ' of ' counter(pages);

@@ -1,0 +1,115 @@
+//! The head of a page: its title, which plan it is, and the verdict; of a refused plan why, with the line at fault.
+
+use crate::fingerprint::fingerprint;
+use crate::html::element::{element, words, Element};
+use crate::judge::{in_words, place, Judged};
+use crate::page::behind;
+use crate::plan::Plan;
+use crate::source::Source;
+use spwd::{Fault, Verdict};
+
+/// What the caller says of the page.
+#[derive(Clone, Debug, Default, PartialEq, Eq)]
+pub struct Given {
+    pub title: Option<String>,
+    pub date: Option<String>,
+}
+
+impl Given {
+    /// The title, or else the file's name.
+    pub fn title<'a>(&'a self, source: &'a Source) -> &'a str {
+        self.title.as_deref().unwrap_or(&source.name)
+    }
+}
+
+pub fn head(source: &Source, judged: &Judged, plan: &Plan, given: &Given) -> Element {
+    let mut facts = vec![fact("file", "file", &source.name)];
+    if judged.verdict.is_accepted() {
+        let print = fact("fingerprint", "fingerprint", fingerprint(&judged.held));
+        facts.push(print.class("print-row"));
+        facts.push(fact("verdict", "verdict", &judged.verdict));
+    }
+    facts.push(fact("counts", "counts", counts(judged, plan)));
+    facts.extend(given.date.as_ref().map(|date| fact("date", "date", date)));
+    facts.extend(plan.timing.map(|timing| {
+        let early = if timing.least == 0 {
+            " (never early)"
+        } else {
+            ""
+        };
+        let (least, greatest) = (timing.least, timing.greatest);
+        let interval = format!("least {least}{early}, greatest {greatest}");
+        fact("intervals", "time-code interval", interval)
+    }));
+    let verdict = match &judged.verdict {
+        Verdict::Accepted(_) => None,
+        Verdict::Refused(fault) => Some(refused(source, &judged.verdict, fault)),
+    };
+    element("header")
+        .add(words("h1", given.title(source)))
+        .add_all(verdict)
+        .add(
+            element("table")
+                .class("facts")
+                .add(element("tbody").add_all(facts)),
+        )
+}
+
+fn fact(id: &'static str, name: &str, value: impl ToString) -> Element {
+    element("tr")
+        .add(words("th", name))
+        .add(words("td", value).with("id", id))
+}
+
+/// The box's own counts; of a refused plan, what is drawn.
+fn counts(judged: &Judged, plan: &Plan) -> String {
+    if let (true, Some(counts)) = (judged.verdict.is_accepted(), place(&judged.verdict)) {
+        return counts;
+    }
+    format!(
+        "none: the plan is refused. Drawn here: devices {}, links {}, paths {}, entries {}",
+        plan.devices.len(),
+        plan.links.len(),
+        plan.paths.len(),
+        plan.entries.len()
+    )
+}
+
+/// The verdict in words, and what it is about.
+fn refused(source: &Source, verdict: &Verdict, fault: &Fault) -> Element {
+    let said = in_words(verdict);
+    let first = said.first().cloned().unwrap_or_default();
+    let mut inside = element("div")
+        .class("verdict refused")
+        .with("id", "verdict")
+        .with("data-verdict", verdict.number())
+        .add(words("strong", first))
+        .add(words("pre", said.get(1..).unwrap_or_default().join("\n")));
+    let behind = behind(source, fault);
+    if !behind.is_empty() {
+        inside = inside.add(about(source, fault, &behind));
+    }
+    inside
+}
+
+/// Lines, with the one of the field at fault marked.
+fn about(source: &Source, fault: &Fault, lines: &[String]) -> Element {
+    let offset = match *fault {
+        Fault::File { place, .. } => Some(usize::from(place)),
+        _ => None,
+    };
+    let at_fault = offset.and_then(|offset| source.line_at(offset));
+    let mut drawn = element("pre").with("id", "about");
+    for line in lines {
+        let own = Some(line.trim_start()) == at_fault.as_deref();
+        drawn = if own {
+            let mark = words("mark", line)
+                .class("fault")
+                .with("data-fault", "line");
+            drawn.add(mark).text("\n")
+        } else {
+            drawn.text(format!("{line}\n"))
+        };
+    }
+    drawn
+}
