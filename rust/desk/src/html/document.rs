@@ -23,3 +23,15 @@ pub fn document(title: &str, inside: impl IntoIterator<Item = Element>) -> Strin
 pub fn section(id: &'static str, heading: impl ToString) -> Element {
     element("section").with("id", id).add(words("h2", heading))
 }
+
+/// Rows from which on a table stands in two columns.
+const LONG: usize = 24;
+
+/// A table of so many rows, in two columns if it is long and no row is wide.
+pub fn folded(table: Element, rows: usize, narrow: bool) -> Element {
+    if rows >= LONG && narrow {
+        element("div").class("two").add(table)
+    } else {
+        table
+    }
+}

@@ -71,6 +71,21 @@ pub fn words(name: &'static str, words: impl ToString) -> Element {
     element(name).text(words)
 }
 
+/// The head of a table: a column that begins with `#` has numbers, one that begins with `*` takes the room that is left.
+pub fn table_head(names: &[&str]) -> Element {
+    let cell = |name: &&str| {
+        if let Some(name) = name.strip_prefix('#') {
+            words("th", name).class("number")
+        } else if let Some(name) = name.strip_prefix('*') {
+            words("th", name).class("rest")
+        } else {
+            words("th", name)
+        }
+    };
+    let cells = names.iter().map(cell);
+    element("thead").add(element("tr").add_all(cells))
+}
+
 impl Display for Element {
     fn fmt(&self, out: &mut Formatter<'_>) -> fmt::Result {
         write!(out, "<{}", self.name)?;

@@ -26,7 +26,7 @@ pub fn head(source: &Source, judged: &Judged, plan: &Plan, given: &Given) -> Ele
     let mut facts = vec![fact("file", "file", &source.name)];
     if judged.verdict.is_accepted() {
         let print = fact("fingerprint", "fingerprint", fingerprint(&judged.held));
-        facts.push(print.class("print-row"));
+        facts.push(print.class("print"));
         facts.push(fact("verdict", "verdict", &judged.verdict));
     }
     facts.push(fact("counts", "counts", counts(judged, plan)));

@@ -192,7 +192,8 @@ fn route(placed: &Placed, place: usize, edge: &Edge) -> String {
     let within = from.0 == to.0;
     let bend = if within {
         let turn = if out > from.0 { 1.0 } else { -1.0 };
-        let far = turn * (8.0 + (from.1 - to.1).abs() / 8.0).min(STUB);
+        let most = placed.gap / 2.0 - STUB;
+        let far = turn * (8.0 + (from.1 - to.1).abs() / 8.0).min(most);
         [(out + far, from.1), (back + far, to.1)]
     } else {
         let middle = (out + back) / 2.0;

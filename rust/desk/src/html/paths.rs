@@ -1,8 +1,8 @@
 //! The paths as walks, from device over link to device; and the ways home of replies that have their own.
 
 use crate::fields::{Path, Reply};
-use crate::html::document::section;
-use crate::html::element::{element, words, Element};
+use crate::html::document::{folded, section};
+use crate::html::element::{element, table_head, words, Element};
 use crate::html::marks::Marks;
 use crate::html::once::Once;
 use crate::plan::Plan;
@@ -13,12 +13,18 @@ pub fn paths(plan: &Plan, marks: &Marks) -> Element {
     if plan.paths.is_empty() && plan.replies.is_empty() {
         return section.add(words("p", "No paths."));
     }
-    let head = ["from", "to", "the command", "the reply"].map(|name| words("th", name));
-    let head = element("thead").add(element("tr").add_all(head));
+    let head = table_head(&["#from", "#to", "the command", "the reply"]);
     let body = element("tbody").add_all(rows(plan, marks));
     let table = element("table").class("wide").add(head).add(body);
-    section.add(table).add(words("p", LEGEND).class("small"))
+    let narrow =
+        plan.replies.is_empty() && plan.paths.iter().all(|path| path.links.len() <= NARROW);
+    section
+        .add(folded(table, plan.paths.len(), narrow))
+        .add(words("p", LEGEND).class("small"))
 }
+
+/// Links of a walk that has room in half the page.
+const NARROW: usize = 3;
 
 const LEGEND: &str = "1 -0- 10 is: from device 1 over link 0 to device 10.";
 

@@ -9,7 +9,7 @@ pub const HALF: f64 = 19.0;
 /// How far a link leaves a device level.
 pub const STUB: f64 = 22.0;
 /// Units between columns, from side to side.
-const GAPS: [f64; 2] = [70.0, 190.0];
+const GAPS: [f64; 2] = [70.0, 290.0];
 /// How often devices are drawn towards their neighbours.
 const SWEEPS: usize = 8;
 
@@ -52,6 +52,8 @@ pub struct Placed {
     pub ends: Vec<[(f64, f64); 2]>,
     pub width: f64,
     pub height: f64,
+    /// Between columns, from side to side.
+    pub gap: f64,
 }
 
 /// Places a network between margins; where it is not as wide as the paper, columns stand further apart.
@@ -86,6 +88,7 @@ pub fn place(mut graph: Graph, below: Below, margins: [f64; 2], paper: f64) -> P
         ends,
         width: margins[0] + margins[1] + boxes + gaps * gap,
         height,
+        gap,
     }
 }
 

@@ -77,9 +77,9 @@ pub const SHEET: &str = "
 * { box-sizing: border-box; }
 html { background: #e6e9ec; }
 body { max-width: 210mm; margin: 0 auto; padding: 10mm 12mm; background: #fff; color: #000;
-  font: 10pt/1.35 Arial, 'Liberation Sans', Helvetica, sans-serif; overflow-wrap: anywhere; }
-h1 { margin: 0 0 1mm; font-size: 20pt; line-height: 1.15; }
-h2 { margin: 7mm 0 2mm; padding-bottom: 0.8mm; border-bottom: 0.3mm solid #000; font-size: 12pt; break-after: avoid; }
+  font: 10pt/1.35 Arial, 'Liberation Sans', Helvetica, sans-serif; overflow-wrap: break-word; }
+h1 { margin: 0 0 1mm; font-size: 20pt; line-height: 1.15; overflow-wrap: anywhere; }
+h2 { margin: 5mm 0 2mm; padding-bottom: 0.8mm; border-bottom: 0.3mm solid #000; font-size: 12pt; break-after: avoid; }
 h3 { margin: 3mm 0 1mm; font-size: 10pt; break-after: avoid; }
 p { margin: 1.5mm 0; }
 .small { font-size: 8.5pt; }
@@ -89,17 +89,23 @@ table { border-collapse: collapse; font-size: 9pt; }
 th, td { padding: 0.5mm 2mm; border-bottom: 0.2mm solid #999; text-align: left; vertical-align: top; }
 thead { display: table-header-group; }
 thead th { border-bottom: 0.4mm solid #000; vertical-align: bottom; }
-.number { text-align: right; font-variant-numeric: tabular-nums; white-space: nowrap; }
+th.number, td.number { text-align: right; font-variant-numeric: tabular-nums; white-space: nowrap; }
 .wide { width: 100%; }
+.rest { width: 55%; }
+.two { columns: 2; column-gap: 8mm; }
+.two table { width: 100%; }
 tr, svg, pre, .whole { break-inside: avoid; }
 .facts { margin: 2mm 0; }
 .facts th { padding-left: 0; font-weight: normal; color: #333; white-space: nowrap; }
 .facts th, .facts td { border: 0; }
-.print { font-size: 14pt; font-weight: bold; letter-spacing: 0.3mm; }
+.facts td { overflow-wrap: anywhere; }
+.print td { font-size: 15pt; font-weight: bold; letter-spacing: 0.3mm; line-height: 1.1; }
+.print th { vertical-align: middle; }
 .verdict { margin: 3mm 0; padding: 2mm 3mm; border: 0.5mm solid #000; }
 .verdict strong { font-size: 12pt; }
 .refused { border-width: 1.2mm; }
 svg { display: block; max-width: 100%; height: auto; margin: 1mm 0; }
+#network svg { max-height: 205mm; }
 svg text { font-size: 11px; fill: #000; text-anchor: middle; dominant-baseline: central; }
 svg text.from { text-anchor: start; }
 svg text.to { text-anchor: end; }

@@ -87,14 +87,15 @@ impl<'a> Table<'a> {
             .iter()
             .map(|row| row.bars.iter().map(&mut id).collect())
             .collect();
-        let sets = sets(&rows);
-        Self {
+        let mut table = Self {
             rows,
             names,
             marks,
-            sets,
+            sets: Vec::new(),
             ids,
-        }
+        };
+        table.sets = table.short_of_room();
+        table
     }
 
     fn block(&self, block: usize) -> Element {
@@ -189,24 +190,38 @@ impl<'a> Table<'a> {
         let (left, right) = (left + 1.0, left + SLOT * part.count as f64 - 1.0);
         let top = top + LANE * bar.lane as f64;
         let (high, low) = (top + FREE, top + LANE - FREE);
-        let said = self.said(&bar.entry, right - left - 2.0 * POINT, fault);
+        let said = self.said(&bar.entry, part).unwrap_or_else(|| {
+            let place = self.sets.iter().position(|&set| set == bar.entry.targets);
+            place.map_or("?".to_string(), letter)
+        });
+        let said = if fault { format!("! {said}") } else { said };
         drawn
             .add(outline(part, [left, right], [high, low]).class(colour))
             .add(text((left + right) / 2.0, (high + low) / 2.0, said).class("halo"))
     }
 
-    /// The targets of an entry as fully as there is room for.
-    fn said(&self, entry: &Entry, room: f64, fault: bool) -> String {
-        let mark = if fault { "! " } else { "" };
-        let forms = forms(entry, self.names).map(|form| format!("{mark}{form}"));
-        let fits = |form: &&String| width(form, SIZE) <= room;
-        match forms.iter().find(fits) {
-            Some(form) => form.clone(),
-            None => {
-                let place = self.sets.iter().position(|&set| set == entry.targets);
-                format!("{mark}{}", place.map_or("?".to_string(), letter))
+    /// The targets of an entry as fully as there is room for; nothing if there is room for a letter alone.
+    fn said(&self, entry: &Entry, part: &Part) -> Option<String> {
+        let ends = [part.begins, part.ends].into_iter();
+        let pointed = ends.filter(|straight| !straight).count() as f64;
+        let fault = self.marks.entries.contains(&entry.offset);
+        let mark = if fault { width("! ", SIZE) } else { 0.0 };
+        let room = SLOT * part.count as f64 - 6.0 - pointed * POINT - mark;
+        let mut forms = forms(entry, self.names).into_iter();
+        forms.find(|form| width(form, SIZE) <= room)
+    }
+
+    /// The targets that need a letter, in the order of the table.
+    fn short_of_room(&self) -> Vec<&'a [u8]> {
+        let mut sets: Vec<&[u8]> = Vec::new();
+        for bar in self.rows.iter().flat_map(|row| &row.bars) {
+            let entry = &bar.entry;
+            let short = |part: &Part| self.said(entry, part).is_none();
+            if !sets.contains(&entry.targets) && parts(entry).iter().any(short) {
+                sets.push(entry.targets);
             }
         }
+        sets
     }
 
     /// What the letters stand for.
@@ -235,21 +250,6 @@ fn forms(entry: &Entry, names: &Names) -> [String; 2] {
         targets.join(", ")
     };
     [form(true), form(false)]
-}
-
-/// Targets that have no room in some part of their entry, in the order of the table.
-fn sets<'a>(rows: &[Row<'a>]) -> Vec<&'a [u8]> {
-    let mut sets: Vec<&[u8]> = Vec::new();
-    for bar in rows.iter().flat_map(|row| &row.bars) {
-        let [_, short] = forms(&bar.entry, &Names::default());
-        let narrow = parts(&bar.entry).iter().map(|part| part.count).min();
-        let room = SLOT * narrow.unwrap_or(1) as f64 - 2.0 - 2.0 * POINT;
-        // As if it were marked, so that a mark moves no letter.
-        if width(&format!("! {short}"), SIZE) > room && !sets.contains(&bar.entry.targets) {
-            sets.push(bar.entry.targets);
-        }
-    }
-    sets
 }
 
 /// A bar: straight where the entry begins or ends, pointed where it runs on and notched where it comes from.

@@ -1,8 +1,8 @@
 //! The times of each path by the plan's slot times, and how much of its span an entry needs at most. Every time is that of the proved sheet.
 
 use crate::fields::{numbers, Entry, Times};
-use crate::html::document::section;
-use crate::html::element::{element, words, Element};
+use crate::html::document::{folded, section};
+use crate::html::element::{element, table_head, words, Element};
 use crate::plan::Plan;
 use crate::sheet::{in_column, LENGTHS};
 
@@ -52,7 +52,8 @@ fn of_paths(plan: &Plan, times: &Times) -> Element {
             .add_all(cells("td", numbers));
         body = body.add(row);
     }
-    element("table").add(element("thead").add(head)).add(body)
+    let table = element("table").add(element("thead").add(head)).add(body);
+    folded(table, plan.paths.len(), true)
 }
 
 /// Entries that need the same: of one initiator, with one span and the same targets.
@@ -106,24 +107,23 @@ fn need(plan: &Plan, times: &Times, entry: &Entry) -> Option<Need> {
 
 fn needs(plan: &Plan, times: &Times) -> Element {
     let head = [
-        "initiator",
-        "at slots",
-        "span",
+        "#initiator",
+        "*at slots",
+        "#span",
         "targets",
-        "bytes",
-        "to",
-        "ns",
-        "of ns",
-        "%",
+        "#bytes",
+        "#to",
+        "#ns",
+        "#of ns",
+        "#%",
     ];
-    let head = head.map(|name| words("th", name));
     let mut body = element("tbody");
     for alike in alike(plan) {
         body = body.add(need_row(plan, times, &alike));
     }
     element("table")
         .class("wide")
-        .add(element("thead").add(element("tr").add_all(head)))
+        .add(table_head(&head))
         .add(body)
 }
 
@@ -135,7 +135,7 @@ fn need_row(plan: &Plan, times: &Times, alike: &Alike) -> Element {
             "data-need",
             format!("{}-{}", entry.initiator, numbers(&alike.slots)),
         )
-        .add(words("td", entry.initiator))
+        .add(words("td", entry.initiator).class("number"))
         .add(words("td", numbers(&alike.slots)))
         .add(words("td", entry.span).class("number"))
         .add(words("td", numbers(entry.targets)));

@@ -1,8 +1,8 @@
 //! Of each pair of initiator and target its turns in the epoch of sixty-four slots, and the longest wait between them: the next turn after a
 //! slot is the proved box's answer, asked again from each turn that it names.
 
-use crate::html::document::section;
-use crate::html::element::{element, words, Element};
+use crate::html::document::{folded, section};
+use crate::html::element::{element, table_head, words, Element};
 use crate::plan::Plan;
 use crate::turns::Wanted;
 use spwd::{Spwd, LENGTH_MOST, SLOTS};
@@ -64,18 +64,24 @@ pub fn largest(desk: &Spwd, initiator: u8, target: u8) -> Option<u16> {
 
 /// Of a plan that a box holds.
 pub fn turns(plan: &Plan, desk: &Spwd) -> Element {
-    let head = ["from", "to", "bytes", "turns", "in slots", "longest wait"];
-    let head = head.map(|name| words("th", name));
+    let head = [
+        "#from",
+        "#to",
+        "#bytes",
+        "#turns",
+        "*in slots",
+        "#longest wait",
+    ];
     let mut body = element("tbody");
     for path in &plan.paths {
         body = body.add_all(rows(desk, path.initiator, path.target));
     }
     let table = element("table")
         .class("wide")
-        .add(element("thead").add(element("tr").add_all(head)))
+        .add(table_head(&head))
         .add(body);
     section("turns", "Turns")
-        .add(table)
+        .add(folded(table, plan.paths.len(), true))
         .add(words("p", LEGEND).class("small"))
 }
 
