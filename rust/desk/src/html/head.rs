@@ -1,7 +1,9 @@
 //! The head of a page: its title, which plan it is, and the verdict; of a refused plan why, with the line at fault.
 
+use crate::fields::Timing;
 use crate::fingerprint::fingerprint;
 use crate::html::element::{element, words, Element};
+use crate::html::marks::Marks;
 use crate::judge::{in_words, place, Judged};
 use crate::page::behind;
 use crate::plan::Plan;
@@ -22,7 +24,13 @@ impl Given {
     }
 }
 
-pub fn head(source: &Source, judged: &Judged, plan: &Plan, given: &Given) -> Element {
+pub fn head(
+    source: &Source,
+    judged: &Judged,
+    plan: &Plan,
+    marks: &Marks,
+    given: &Given,
+) -> Element {
     let mut facts = vec![fact("file", "file", &source.name)];
     if judged.verdict.is_accepted() {
         let print = fact("fingerprint", "fingerprint", fingerprint(&judged.held));
@@ -31,16 +39,7 @@ pub fn head(source: &Source, judged: &Judged, plan: &Plan, given: &Given) -> Ele
     }
     facts.push(fact("counts", "counts", counts(judged, plan)));
     facts.extend(given.date.as_ref().map(|date| fact("date", "date", date)));
-    facts.extend(plan.timing.map(|timing| {
-        let early = if timing.least == 0 {
-            " (never early)"
-        } else {
-            ""
-        };
-        let (least, greatest) = (timing.least, timing.greatest);
-        let interval = format!("least {least}{early}, greatest {greatest}");
-        fact("intervals", "time-code interval", interval)
-    }));
+    facts.extend(plan.timing.map(|timing| intervals(&timing, marks)));
     let verdict = match &judged.verdict {
         Verdict::Accepted(_) => None,
         Verdict::Refused(fault) => Some(refused(source, &judged.verdict, fault)),
@@ -59,6 +58,14 @@ fn fact(id: &'static str, name: &str, value: impl ToString) -> Element {
     element("tr")
         .add(words("th", name))
         .add(words("td", value).with("id", id))
+}
+
+fn intervals(timing: &Timing, marks: &Marks) -> Element {
+    let (least, greatest) = (timing.least, timing.greatest);
+    let early = if least == 0 { " (never early)" } else { "" };
+    let interval = format!("least {least}{early}, greatest {greatest}");
+    let row = fact("intervals", "time-code interval", interval);
+    marks.field(row, timing.offset, "intervals")
 }
 
 /// The box's own counts; of a refused plan, what is drawn.
@@ -99,10 +106,15 @@ fn about(source: &Source, fault: &Fault, lines: &[String]) -> Element {
         _ => None,
     };
     let at_fault = offset.and_then(|offset| source.line_at(offset));
+    let field = offset.map(|offset| format!("the field at offset {offset}:"));
+    let is_own = |line: &str| match (&at_fault, &field) {
+        (Some(at_fault), _) => line.trim_start() == at_fault,
+        (None, Some(field)) => line.starts_with(field),
+        (None, None) => false,
+    };
     let mut drawn = element("pre").with("id", "about");
     for line in lines {
-        let own = Some(line.trim_start()) == at_fault.as_deref();
-        drawn = if own {
+        drawn = if is_own(line) {
             let mark = words("mark", line)
                 .class("fault")
                 .with("data-fault", "line");

@@ -1,6 +1,7 @@
 //! What a refusal is about, to be marked wherever it is drawn. Which initiators, slot, link or field it is, is the box's word.
 
 use crate::fields::Entry;
+use crate::html::element::Element;
 use crate::plan::Plan;
 use spwd::{Fault, Verdict};
 use std::collections::BTreeSet;
@@ -15,6 +16,8 @@ pub struct Marks {
     pub ways: BTreeSet<usize>,
     pub entries: BTreeSet<usize>,
     pub slot: Option<u8>,
+    /// Of intervals and slot times too, which stand in no drawing.
+    field: Option<usize>,
     /// What is said beside a marked path or reply.
     pub words: String,
 }
@@ -39,10 +42,22 @@ impl Marks {
     }
 }
 
+impl Marks {
+    /// An element that says what the field at an offset does, marked if this is the one that was refused.
+    pub fn field(&self, element: Element, offset: usize, name: &str) -> Element {
+        if self.field == Some(offset) {
+            element.class("fault").with("data-fault", name)
+        } else {
+            element
+        }
+    }
+}
+
 /// The item of a field that was refused.
 fn field(plan: &Plan, offset: usize) -> Marks {
     let mut marks = Marks {
         words: "refused here".to_string(),
+        field: Some(offset),
         ..Marks::default()
     };
     let devices = plan.devices.iter().filter(|item| item.offset == offset);

@@ -22,12 +22,12 @@ pub fn page(source: &Source, given: &Given) -> (String, bool) {
     let (plan, left_out) = readable(source, &judged);
     let names = &source.compiled.names;
     let marks = Marks::of(&judged.verdict, &plan);
-    let mut inside = vec![head(source, &judged, &plan, given)];
+    let mut inside = vec![head(source, &judged, &plan, &marks, given)];
     inside.extend(left_out.map(|said| words("p", said)));
     inside.push(network(&plan, names, &marks));
     inside.push(table(&plan, names, &marks));
     inside.push(paths(&plan, &marks));
-    inside.extend(times(&plan));
+    inside.extend(times(&plan, &marks));
     inside.extend(asked(&plan, &judged));
     let text = document(given.title(source), inside);
     (text, judged.verdict.is_accepted())

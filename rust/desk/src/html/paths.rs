@@ -26,7 +26,7 @@ pub fn paths(plan: &Plan, marks: &Marks) -> Element {
 /// Links of a walk that has room in half the page.
 const NARROW: usize = 3;
 
-const LEGEND: &str = "1 -0- 10 is: from device 1 over link 0 to device 10.";
+const LEGEND: &str = "1 -0- 10 is: from device 1 over link 0 to device 10. The reply goes back over the same links where it has no way of its own.";
 
 /// A row for each path, with its reply if that has a way of its own; then replies that have no path.
 fn rows(plan: &Plan, marks: &Marks) -> Vec<Element> {
@@ -56,7 +56,7 @@ fn row(plan: &Plan, marks: &Marks, path: &Path, reply: Option<Reply>, id: &str) 
     let command = walk(plan, marks, &path.way(), path.offset);
     let home = match &reply {
         Some(reply) => walk(plan, marks, &reply.way(), reply.offset).with("data-reply", id),
-        None => words("td", "back over the same links"),
+        None => words("td", "the same links"),
     };
     let own = [Some(path.offset), reply.map(|reply| reply.offset)];
     let fault = own

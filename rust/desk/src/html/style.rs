@@ -82,6 +82,7 @@ h1 { margin: 0 0 1mm; font-size: 20pt; line-height: 1.15; overflow-wrap: anywher
 h2 { margin: 5mm 0 2mm; padding-bottom: 0.8mm; border-bottom: 0.3mm solid #000; font-size: 12pt; break-after: avoid; }
 h3 { margin: 3mm 0 1mm; font-size: 10pt; break-after: avoid; }
 p { margin: 1.5mm 0; }
+.lead { break-after: avoid; }
 .small { font-size: 8.5pt; }
 code, pre, .mono { font-family: 'DejaVu Sans Mono', 'Liberation Mono', Menlo, Consolas, monospace; font-size: 0.92em; }
 pre { margin: 1mm 0; white-space: pre-wrap; }
@@ -139,9 +140,9 @@ svg text.halo { paint-order: stroke; stroke: #fff; stroke-width: 3px; stroke-lin
 .slot { fill: none; stroke: #b00000; stroke-width: 2px; stroke-dasharray: 2 2; }
 .letters { columns: 3; margin: 1mm 0; padding: 0; font-size: 8.5pt; list-style: none; }
 .letters li { break-inside: avoid; }
-li.fault { font-weight: bold; color: #b00000; }
+p.fault, .facts tr.fault td, .facts tr.fault th, li.fault { font-weight: bold; color: #b00000; }
 mark { background: none; color: #b00000; font-weight: bold; text-decoration: underline; }
-tr.fault td, tr.fault th { border-top: 0.6mm solid #b00000; border-bottom: 0.6mm solid #b00000; }
+tr.fault td, tr.fault th, p.fault { border-top: 0.6mm solid #b00000; border-bottom: 0.6mm solid #b00000; }
 .fault-words { font-weight: bold; color: #b00000; }
 @page { size: A4 portrait; margin: 12mm; @bottom-right { content: 'page ' counter(page) ' of ' counter(pages);
   font: 8pt Arial, 'Liberation Sans', Helvetica, sans-serif; } }

@@ -227,8 +227,10 @@ impl<'a> Table<'a> {
     /// What the letters stand for.
     fn letters(&self) -> Option<Element> {
         let lines = self.sets.iter().enumerate().map(|(place, set)| {
-            words("li", format!("{}: {}", letter(place), numbers(set)))
+            element("li")
                 .with("data-letter", letter(place))
+                .add(words("b", letter(place)))
+                .text(format!(" {}", numbers(set)))
         });
         let list = element("ul").class("letters").add_all(lines);
         (!self.sets.is_empty()).then_some(list)

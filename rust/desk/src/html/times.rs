@@ -3,15 +3,17 @@
 use crate::fields::{numbers, Entry, Times};
 use crate::html::document::{folded, section};
 use crate::html::element::{element, table_head, words, Element};
+use crate::html::marks::Marks;
 use crate::plan::Plan;
 use crate::sheet::{in_column, LENGTHS};
 
 /// Nothing of a plan without slot times.
-pub fn times(plan: &Plan) -> Option<Element> {
+pub fn times(plan: &Plan, marks: &Marks) -> Option<Element> {
     let times = plan.times?;
     let [rate, latencies] = times.in_words();
+    let given = words("p", format!("{rate}; {latencies}.")).class("lead");
     let section = section("times", "Times")
-        .add(words("p", format!("{rate}; {latencies}.")))
+        .add(marks.field(given, times.offset, "times"))
         .add(words(
             "h3",
             "Time of a transaction in ns, by path and data bytes",

@@ -1,6 +1,9 @@
 //! Running the programs, and bytes by chance.
 #![allow(dead_code)]
 
+pub mod pages;
+pub mod xml;
+
 use desk::form::compile;
 use std::fs;
 use std::io::Write;
