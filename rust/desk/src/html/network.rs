@@ -14,7 +14,7 @@ use crate::plan::Plan;
 /// Letters of a name beside a device, and how wide it is at most; below a device, the height of its line too.
 const SIZE: f64 = 11.0;
 const BESIDE: f64 = 150.0;
-const BELOW: f64 = 110.0;
+const BELOW: f64 = 100.0;
 const LINE: f64 = 12.0;
 /// Around the drawing.
 const MARGIN: f64 = 6.0;
