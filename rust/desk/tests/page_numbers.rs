@@ -37,7 +37,7 @@ fn accepted() -> Vec<Shown> {
             accepted.push(Shown { text, source, page });
         }
     }
-    assert!(accepted.len() > 50, "{}", accepted.len());
+    assert!(accepted.len() > 30, "{}", accepted.len());
     accepted
 }
 
