@@ -49,6 +49,7 @@ impl Element {
     }
 
     /// With an element behind what is inside.
+    #[allow(clippy::should_implement_trait)]
     pub fn add(mut self, element: Element) -> Self {
         self.inside.push(Part::Element(element));
         self

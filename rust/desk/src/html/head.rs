@@ -35,7 +35,7 @@ pub fn head(
     if judged.verdict.is_accepted() {
         let print = fact("fingerprint", "fingerprint", fingerprint(&judged.held));
         facts.push(print.class("print"));
-        facts.push(fact("verdict", "verdict", &judged.verdict));
+        facts.push(fact("verdict", "verdict", judged.verdict));
     }
     facts.push(fact("counts", "counts", counts(judged, plan)));
     facts.extend(given.date.as_ref().map(|date| fact("date", "date", date)));

@@ -47,8 +47,8 @@ impl Node {
     }
 
     pub fn id(&self, id: &str) -> Option<&Node> {
-        let all = self.all().into_iter();
-        all.filter(|node| node.get("id") == Some(id)).next_back()
+        let mut all = self.all().into_iter();
+        all.find(|node| node.get("id") == Some(id))
     }
 
     pub fn named(&self, name: &str) -> Vec<&Node> {
