@@ -30,6 +30,7 @@
 
 mod card;
 mod event;
+mod image;
 mod plan;
 #[allow(unsafe_code)]
 mod raw;
@@ -42,6 +43,7 @@ mod watchdog;
 pub mod words;
 
 pub use event::{Answer, Ended, Event, ERROR, READ, RESERVED, SUCCESS, WRITE};
+pub use image::{Array, Image, IMAGE_SIZE};
 pub use plan::Plan;
 pub use record::{records, Record, Records};
 pub use refusal::Refusal;

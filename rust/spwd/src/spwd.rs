@@ -1,6 +1,7 @@
 //! The box.
 
 use crate::event::{eight, Answer, Ended, Event};
+use crate::image::Image;
 use crate::plan::Plan;
 use crate::raw;
 use crate::refusal::{taken, Refusal};
@@ -213,6 +214,11 @@ impl Spwd {
     /// The plan's memory.
     pub const fn plan(&self) -> &Plan {
         &self.plan
+    }
+
+    /// All of its memory, as a jig reads it back.
+    pub fn image(&self) -> Image {
+        Image::of(&self.plan, &self.run, self.watchdog, self.last)
     }
 
     /// The watchdog's five numbers.
