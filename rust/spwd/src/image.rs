@@ -186,7 +186,8 @@ impl Image {
     }
 
     fn narrow<const N: usize>(&self, array: Array) -> [u8; N] {
-        self.each(array, u8::from_le_bytes)
+        let bytes = &self.bytes[array.offset..array.end()];
+        bytes.try_into().unwrap_or([0; N])
     }
 
     /// The `N` numbers of an array, each of `W` bytes.
@@ -198,7 +199,9 @@ impl Image {
         let mut numbers = [T::default(); N];
         let bytes = self.bytes[array.offset..array.end()].chunks_exact(W);
         for (place, bytes) in numbers.iter_mut().zip(bytes) {
-            *place = number(bytes.try_into().unwrap_or([0; W]));
+            if let Ok(bytes) = bytes.try_into() {
+                *place = number(bytes);
+            }
         }
         numbers
     }
