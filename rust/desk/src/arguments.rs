@@ -7,6 +7,7 @@ use std::ffi::OsString;
 #[derive(Debug, PartialEq, Eq)]
 pub enum Asked {
     Help,
+    Version,
     Run {
         options: Vec<&'static str>,
         file: Option<OsString>,
@@ -21,6 +22,7 @@ pub fn asked(
     let known: Vec<_> = known.iter().map(|&option| (option, 0)).collect();
     Ok(match given(words, &known)? {
         Given::Help => Asked::Help,
+        Given::Version => Asked::Version,
         Given::Words { options, others } => Asked::Run {
             options: options.into_iter().map(|(option, _)| option).collect(),
             file: one_file(others)?,
@@ -35,6 +37,7 @@ pub type Options = [(&'static str, Vec<OsString>)];
 #[derive(Debug, PartialEq, Eq)]
 pub enum Given {
     Help,
+    Version,
     Words {
         options: Vec<(&'static str, Vec<OsString>)>,
         others: Vec<OsString>,
@@ -52,8 +55,10 @@ pub fn given(
         let text = word.to_string_lossy();
         if !ended && text == "--" {
             ended = true;
-        } else if !ended && text == "--help" {
+        } else if !ended && (text == "--help" || text == "-h") {
             return Ok(Given::Help);
+        } else if !ended && text == "--version" {
+            return Ok(Given::Version);
         } else if !ended && text.len() > 1 && text.starts_with('-') {
             let option = known.iter().find(|(option, _)| *option == text);
             let &(option, count) = option.ok_or(format!("there is no option {text}"))?;
@@ -70,6 +75,12 @@ pub fn given(
         }
     }
     Ok(Given::Words { options, others })
+}
+
+/// The line of `--version`: that of the desk, and that of the interface to the proved box.
+pub fn version(program: &str) -> String {
+    let (desk, interface) = (env!("CARGO_PKG_VERSION"), spwd::VERSION);
+    format!("{program} {desk}, interface version {interface}\n")
 }
 
 /// The words of an option, if it was given.

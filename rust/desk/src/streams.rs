@@ -1,7 +1,7 @@
 //! Reading a file or standard input, and writing where a reader may have gone.
 
 use std::ffi::OsString;
-use std::fs::File;
+use std::fs::{read_link, read_to_string, File};
 use std::io::{self, BufRead, ErrorKind, Read, Write};
 use std::path::Path;
 use std::process::ExitCode;
@@ -49,7 +49,7 @@ impl Input {
 
     pub fn open(&self) -> Result<Box<dyn Read>, String> {
         match &self.0 {
-            None => Ok(Box::new(io::stdin())),
+            None => is_open(0, &self.name()).map(|()| Box::new(io::stdin()) as _),
             Some(file) => match File::open(file) {
                 Ok(file) => Ok(Box::new(file)),
                 Err(error) => Err(self.failed(&error)),
@@ -59,13 +59,19 @@ impl Input {
 
     /// The whole input, which has at most `most` bytes.
     pub fn read(&self, most: u64) -> Result<Vec<u8>, String> {
+        let bytes = self.read_of(most + 1)?;
+        if bytes.len() as u64 > most {
+            let name = self.name();
+            return Err(format!("{name}: longer than {most} bytes: this is no plan"));
+        }
+        Ok(bytes)
+    }
+
+    /// At most so many bytes of the input, from its front.
+    pub fn read_of(&self, most: u64) -> Result<Vec<u8>, String> {
         let mut bytes = Vec::new();
-        match self.open()?.take(most + 1).read_to_end(&mut bytes) {
+        match self.open()?.take(most).read_to_end(&mut bytes) {
             Err(error) => Err(self.failed(&error)),
-            Ok(size) if size as u64 > most => {
-                let name = self.name();
-                Err(format!("{name}: longer than {most} bytes: this is no plan"))
-            }
             Ok(_) => Ok(bytes),
         }
     }
@@ -98,8 +104,34 @@ pub fn read_line(input: &mut impl BufRead, line: &mut Vec<u8>, most: usize) -> i
     }
 }
 
+/// Fails if a standard stream was closed when the program began.
+///
+/// The runtime opens /dev/null for reading and writing in the place of a closed one, so that is how it shows. Whoever wants no output opens
+/// /dev/null for writing alone, as a shell does. Where there is no /proc nothing is known, and the stream passes for open.
+pub fn is_open(descriptor: u8, name: &str) -> Result<(), String> {
+    let null = read_link(format!("/proc/self/fd/{descriptor}"));
+    let null = null.is_ok_and(|file| file == Path::new("/dev/null"));
+    let state = read_to_string(format!("/proc/self/fdinfo/{descriptor}")).unwrap_or_default();
+    let flags = state.lines().find_map(|line| line.strip_prefix("flags:"));
+    let flags = flags.and_then(|flags| u32::from_str_radix(flags.trim(), 8).ok());
+    const ACCESS: u32 = 3;
+    const BOTH: u32 = 2;
+    if null && flags.is_some_and(|flags| flags & ACCESS == BOTH) {
+        return Err(format!(
+            "{name} is closed (or /dev/null, opened for both reading and writing)"
+        ));
+    }
+    Ok(())
+}
+
+/// Fails if standard output was closed.
+pub fn output_is_open() -> Result<(), String> {
+    is_open(1, "standard output")
+}
+
 /// Writes to standard output. A reader that has closed the pipe has what it wants: that is no failure.
 pub fn put(bytes: &[u8]) -> Result<(), String> {
+    output_is_open()?;
     let mut output = io::stdout().lock();
     match output.write_all(bytes).and_then(|()| output.flush()) {
         Err(error) if error.kind() != ErrorKind::BrokenPipe => {

@@ -44,6 +44,16 @@ impl Times {
     }
 }
 
+/// The least span that permits a request to a target that its initiator has a path to; nothing where 16 slots do not.
+pub fn least_span(plan: &Plan, wanted: &Wanted) -> Option<u8> {
+    let path = plan.path(wanted.initiator, wanted.target)?;
+    let fits = |span: &u8| match plan.times {
+        Some(times) => times.fits(plan.routers(&path), wanted.length, *span),
+        None => wanted.length <= A_SLOT * u16::from(*span),
+    };
+    (1..=16).find(fits)
+}
+
 /// A target that entries have and never permit, since not even length 0 fits their span.
 #[derive(Debug, PartialEq, Eq)]
 pub struct Never {

@@ -1,7 +1,7 @@
 //! A plan's text form to the bytes of its plan file, and back.
 #![forbid(unsafe_code)]
 
-use desk::arguments::{asked, Asked};
+use desk::arguments::{asked, version, Asked};
 use desk::judge::{in_words, judge, place};
 use desk::page::behind;
 use desk::source::Source;
@@ -17,7 +17,7 @@ const HELP: &str = "\
 spwd-compile FILE          the text form of a plan to its plan file, on standard output
 spwd-compile --hex FILE    the same in one line of lowercase hex, as `load` of a script takes it
 spwd-compile --text FILE   a plan file, or any bytes, to text that compiles to the same bytes
-spwd-compile --help        this
+spwd-compile --help        this, as -h; --version says which one this is
 
 FILE may be - for standard input.
 
@@ -51,6 +51,7 @@ const FILE: u64 = 1 << 20;
 fn main() -> ExitCode {
     let status = match asked(std::env::args_os().skip(1), &["--hex", "--text"]) {
         Ok(Asked::Help) => put(HELP.as_bytes()).map(|()| Status::Done),
+        Ok(Asked::Version) => put(version(NAME).as_bytes()).map(|()| Status::Done),
         Ok(Asked::Run { options, file }) => run(&options, file),
         Err(wrong) => Err(format!("{wrong}; see {NAME} --help")),
     };

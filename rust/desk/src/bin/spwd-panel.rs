@@ -1,10 +1,10 @@
 //! The script that `replay` reads, played on the box: what happens, in words.
 #![forbid(unsafe_code)]
 
-use desk::arguments::{asked, Asked};
+use desk::arguments::{asked, version, Asked};
 use desk::panel::Panel;
 use desk::script::LINE;
-use desk::streams::{fail, put, read_line, Input, Status};
+use desk::streams::{fail, output_is_open, put, read_line, Input, Status};
 use std::io::{self, BufReader, ErrorKind, Write};
 use std::process::ExitCode;
 
@@ -12,7 +12,7 @@ const NAME: &str = "spwd-panel";
 
 const HELP: &str = "\
 spwd-panel [--card] [FILE]   plays a script on the box and says in words what happens
-spwd-panel --help            this
+spwd-panel --help            this, as -h; --version says which one this is
 
 Without FILE, or with -, standard input is read. --card adds the row of the card to every verdict and
 refusal, and to every record that asks for something.
@@ -43,6 +43,7 @@ const CHUNK: usize = 1 << 16;
 fn main() -> ExitCode {
     let status = match asked(std::env::args_os().skip(1), &["--card"]) {
         Ok(Asked::Help) => put(HELP.as_bytes()).map(|()| Status::Done),
+        Ok(Asked::Version) => put(version(NAME).as_bytes()).map(|()| Status::Done),
         Ok(Asked::Run { options, file }) => play(!options.is_empty(), &Input::of(file)),
         Err(wrong) => Err(format!("{wrong}; see {NAME} --help")),
     };
@@ -50,6 +51,7 @@ fn main() -> ExitCode {
 }
 
 fn play(card: bool, script: &Input) -> Result<Status, String> {
+    output_is_open()?;
     let mut panel = Panel::new(card);
     let mut input = BufReader::with_capacity(CHUNK, script.open()?);
     let (mut line, mut said) = (Vec::new(), String::new());

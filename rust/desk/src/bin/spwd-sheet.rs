@@ -1,7 +1,7 @@
 //! How long transactions take: the sheet by itself, and the sheet of a plan.
 #![forbid(unsafe_code)]
 
-use desk::arguments::{given, numbers, one_file, own, Given, Options};
+use desk::arguments::{given, numbers, one_file, own, version, Given, Options};
 use desk::form::{number, times};
 use desk::judge::judge;
 use desk::page::page;
@@ -21,7 +21,7 @@ spwd-sheet [--text | --bytes] [FILE]                          the times of a pla
 spwd-sheet --times S A D F G SLOT [--text | --bytes] [FILE]   the same with other slot times than its own
 spwd-sheet --routers R --rate S --latencies A D F G LENGTH..  the sheet by itself, term by term
 spwd-sheet --routers R --reply-routers B --rate S ..          the same for a reply with a way of its own
-spwd-sheet --help                                             this
+spwd-sheet --help                                             this, as -h; --version says which one this is
 
 FILE is a plan file, or the text form of a plan if its name ends in .plan; --text says that it is the text
 form, --bytes that it is a plan file, whatever its name. Without FILE, or with -, standard input is read.
@@ -61,6 +61,7 @@ const MOST: u64 = 16 << 20;
 fn main() -> ExitCode {
     let status = match given(std::env::args_os().skip(1), &OPTIONS) {
         Ok(Given::Help) => put(HELP.as_bytes()).map(|()| Status::Done),
+        Ok(Given::Version) => put(version(NAME).as_bytes()).map(|()| Status::Done),
         Ok(Given::Words { options, others }) => run(&options, others),
         Err(wrong) => Err(see(&wrong)),
     };

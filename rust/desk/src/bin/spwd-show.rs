@@ -1,7 +1,7 @@
 //! A plan shown to people: the verdict in words, the network, the table of slots; and when the next turn of a request is under it.
 #![forbid(unsafe_code)]
 
-use desk::arguments::{given, numbers, one_file, own, Given, Options};
+use desk::arguments::{given, numbers, one_file, own, version, Given, Options};
 use desk::html;
 use desk::judge::judge;
 use desk::page::page;
@@ -19,7 +19,7 @@ spwd-show [--text | --bytes] [FILE]   the verdict of the box on a plan, in words
 spwd-show --next I T D ..             the turns of initiator I for a request of D bytes to target T
 spwd-show --next I T D SLOT ..        the next one after this slot
 spwd-show --page ..                   the same as a page to print and tape to the box: one HTML file
-spwd-show --help                      this
+spwd-show --help                      this, as -h; --version says which one this is
 
 FILE is a plan file, or the text form of a plan if its name ends in .plan; --text says that it is the text
 form, --bytes that it is a plan file, whatever its name. Without FILE, or with -, standard input is read.
@@ -64,6 +64,7 @@ const MOST: u64 = 16 << 20;
 fn main() -> ExitCode {
     let status = match given(std::env::args_os().skip(1), &OPTIONS) {
         Ok(Given::Help) => put(HELP.as_bytes()).map(|()| Status::Done),
+        Ok(Given::Version) => put(version(NAME).as_bytes()).map(|()| Status::Done),
         Ok(Given::Words { options, others }) => run(&options, others),
         Err(wrong) => Err(see(&wrong)),
     };

@@ -14,6 +14,7 @@ pub const COMPILE: &str = env!("CARGO_BIN_EXE_spwd-compile");
 pub const SHOW: &str = env!("CARGO_BIN_EXE_spwd-show");
 pub const SHEET: &str = env!("CARGO_BIN_EXE_spwd-sheet");
 pub const PANEL: &str = env!("CARGO_BIN_EXE_spwd-panel");
+pub const COUNTER: &str = env!("CARGO_BIN_EXE_spwd-counter");
 
 /// The folder that holds plans, docs and rust; programs are run in it.
 pub fn root() -> PathBuf {
