@@ -30,7 +30,7 @@ pub fn field_in_words(source: &Source, number: u8, offset: usize) -> Vec<String>
 }
 
 /// What is at fault in a field, after the fields before it, if the box refuses it with this number.
-fn reasons(source: &Source, number: u8, before: &[Field], field: &Field) -> Vec<String> {
+pub fn reasons(source: &Source, number: u8, before: &[Field], field: &Field) -> Vec<String> {
     let plan = Plan::given(before);
     match (number, field.item()) {
         (2 | 3 | 5, _) => vec![not_well_formed(field)],

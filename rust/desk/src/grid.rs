@@ -69,7 +69,10 @@ fn cells<'a>(plan: &'a Plan<'a>, initiator: u8) -> [Cell<'a>; SLOTS] {
         for slot in first + 1..first + usize::from(entry.span) {
             cells[slot % SLOTS] = Cell::Runs;
         }
-        cells[first % SLOTS] = Cell::Begins(entry);
+    }
+    // Of a plan that is refused an entry may begin while another one runs.
+    for entry in plan.entries_of(initiator) {
+        cells[usize::from(entry.slot) % SLOTS] = Cell::Begins(entry);
     }
     cells
 }

@@ -68,13 +68,18 @@ fn fault_place(fault: &Fault) -> Option<String> {
     }
 }
 
+/// What the verdict on an accepted plan means where nobody's box was touched.
+const TAKEN: &str = "a box takes this plan";
+
 /// The verdict as the card says it, number first.
 pub fn in_words(verdict: &Verdict) -> Vec<String> {
     let row = words::verdict(verdict.number());
-    let mut lines = vec![
-        verdict.to_string(),
-        format!("{}: {}", row.number, row.means),
-    ];
+    let means = if verdict.is_accepted() {
+        TAKEN
+    } else {
+        row.means
+    };
+    let mut lines = vec![verdict.to_string(), format!("{}: {means}", row.number)];
     lines.extend(place(verdict).map(|place| format!("    {place}")));
     lines.push(row.advice());
     lines

@@ -2,6 +2,8 @@
 
 use crate::clash::{clash, overrun};
 use crate::fault::field_in_words;
+use crate::fingerprint::fingerprint;
+use crate::further::{further, sifted, Sifted};
 use crate::grid::grid;
 use crate::judge::{in_words, judge, Judged};
 use crate::layout::wrapped;
@@ -9,6 +11,7 @@ use crate::network::network;
 use crate::no_entry::no_entry;
 use crate::plan::Plan;
 use crate::source::Source;
+use crate::taken::hint;
 use crate::times::never;
 use spwd::{Fault, Verdict};
 
@@ -16,15 +19,39 @@ use spwd::{Fault, Verdict};
 pub fn page(source: &Source) -> (Vec<String>, bool) {
     let judged = judge(source.bytes());
     let mut lines = in_words(&judged.verdict);
-    let behind = match &judged.verdict {
-        Verdict::Accepted(_) => held(&judged),
-        Verdict::Refused(fault) => behind(source, fault),
+    lines.extend(hint(source).map(|hint| format!("    {hint}")));
+    let parts = match &judged.verdict {
+        Verdict::Accepted(_) => {
+            lines.push(format!("    fingerprint {}", fingerprint(&judged.held)));
+            vec![held(&judged)]
+        }
+        Verdict::Refused(fault) => refused(source, fault),
     };
-    if !behind.is_empty() {
+    for part in parts.into_iter().filter(|part| !part.is_empty()) {
         lines.push(String::new());
-        lines.extend(behind);
+        lines.extend(part);
     }
     (lines, judged.verdict.is_accepted())
+}
+
+/// What a refusal is about, what else is at fault, and the table of the entries that are not.
+fn refused(source: &Source, fault: &Fault) -> Vec<Vec<String>> {
+    let sifted = sifted(source);
+    let further = further(source, &sifted, fault);
+    vec![behind(source, fault), further, table(&sifted, fault)]
+}
+
+fn table(sifted: &Sifted, fault: &Fault) -> Vec<String> {
+    let plan = sifted.plan();
+    if plan.entries.is_empty() || fault.number() == Verdict::FILE_TOO_LONG {
+        return Vec::new();
+    }
+    let mut lines = Vec::new();
+    if !sifted.faulty.is_empty() {
+        lines.push("what is left without the fields at fault:".to_string());
+    }
+    lines.extend(grid(&plan));
+    lines
 }
 
 /// The plan as the box holds it.

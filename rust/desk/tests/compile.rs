@@ -27,7 +27,7 @@ fn round_trip(file: &[u8]) {
 #[test]
 fn every_plan_with_its_verdict() {
     for plan in plans("plans") {
-        let ran = run(COMPILE, &[&plan], b"");
+        let ran = run(COMPILE, &["--force", &plan], b"");
         assert_eq!(ran.out, bytes(&plan), "{plan}");
         let verdict = verdict(&plan).unwrap();
         let status = if verdict.starts_with("ACCEPTED") {
@@ -49,7 +49,8 @@ fn every_plan_and_back() {
         assert_eq!((text.err.as_str(), text.status), ("", 0), "{plan}");
         let head = format!("# verdict: {}\n", verdict(&plan).unwrap());
         assert!(text.text().starts_with(&head), "{plan}");
-        assert_eq!(run(COMPILE, &["-"], &text.out).out, file, "{plan}");
+        let forced = run(COMPILE, &["--force", "-"], &text.out);
+        assert_eq!(forced.out, file, "{plan}");
     }
 }
 
@@ -57,11 +58,11 @@ fn every_plan_and_back() {
 #[test]
 fn every_plan_in_hex() {
     for plan in plans("plans") {
-        let hex = run(COMPILE, &["--hex", &plan], b"");
+        let hex = run(COMPILE, &["--force", "--hex", &plan], b"");
         let line = hex.text().strip_suffix('\n').unwrap();
         let load = line_of(format!("load {line}").as_bytes());
         assert_eq!(load, Line::Command(Command::Load(bytes(&plan))), "{plan}");
-        let plain = run(COMPILE, &[&plan], b"");
+        let plain = run(COMPILE, &[&plan, "--force"], b"");
         assert_eq!((hex.err, hex.status), (plain.err, plain.status), "{plan}");
     }
 }
@@ -73,7 +74,7 @@ fn every_item() {
         path 1 2 3 4 5 6 7 8 9 10 11 12\nentry 1 64 0 9 9\nintervals 66051 4294967295\n\
         times 258 0 1 256 65536 4294967295\n reply 2  1 255\nreply 1 2 3 4 5 6 7 8 9 10 11 12\n\
         bytes 0a Fb FF 00\n   # end";
-    let ran = run(COMPILE, &["-"], text);
+    let ran = run(COMPILE, &["--force", "-"], text);
     #[rustfmt::skip]
     let file = [
         1, 0, 2, 7, 0,
@@ -97,7 +98,7 @@ fn every_item() {
 fn a_long_path() {
     let ran = run(
         COMPILE,
-        &["-"],
+        &["--force", "-"],
         format!("path{}", " 9".repeat(258)).as_bytes(),
     );
     assert_eq!(ran.out, [&[3, 1, 2], &[9; 258][..]].concat());
@@ -125,7 +126,7 @@ fn lines_of_another_system() {
     assert_eq!(ran.out, bytes("plans/smallest.plan"));
     assert_eq!(
         ran.err,
-        "standard input: ACCEPTED 2 1 1 1: devices 2, links 1, paths 1, entries 1\n"
+        "standard input: ACCEPTED 2 1 1 1: devices 2, links 1, paths 1, entries 1, fingerprint 991f4a0ca1f121e6\n"
     );
     assert_eq!(ran.status, 0);
 }
@@ -177,7 +178,7 @@ fn back_in_words() {
     let ran = run(COMPILE, &["--text", "-"], &file);
     assert_eq!(ran.text(), expected("compile/back.txt"));
     assert_eq!((ran.err.as_str(), ran.status), ("", 0));
-    assert_eq!(run(COMPILE, &["-"], &ran.out).out, file);
+    assert_eq!(run(COMPILE, &["--force", "-"], &ran.out).out, file);
 }
 
 #[test]
@@ -192,16 +193,13 @@ fn twenty_complaints_and_how_many_more() {
     let ran = run(COMPILE, &["-"], "what\n".repeat(25).as_bytes());
     assert_eq!(ran.err.matches(": what\n").count(), 20);
     assert!(ran.err.contains("standard input:20: what\n"), "{}", ran.err);
-    assert!(
-        ran.err
-            .ends_with("standard input: and 5 more lines that are no item\n"),
-        "{}",
-        ran.err
-    );
+    let end = "standard input: and 5 more lines that are no item\n\
+               standard input: this is text, but no line of it begins an item of a plan\n";
+    assert!(ran.err.ends_with(end), "{}", ran.err);
     assert_eq!((ran.text(), ran.status), ("", 2));
 }
 
-/// The box refuses: the bytes are there, and the line that it is about.
+/// The box refuses: nothing is written but what is at fault, with its lines. Forced, the bytes are there too.
 #[test]
 fn refused_with_its_line() {
     for (plan, stored) in [
@@ -229,7 +227,12 @@ fn refused_with_its_line() {
     ] {
         let ran = run(COMPILE, &[plan], b"");
         assert_eq!(ran.err, expected(stored), "{plan}");
-        assert_eq!((ran.out, ran.status), (bytes(plan), 1), "{plan}");
+        assert_eq!((ran.text(), ran.status), ("", 1), "{plan}");
+        let forced = run(COMPILE, &["--force", plan], b"");
+        let written = "written all the same, for --force\n";
+        let (said, _) = ran.err.split_once("nothing is written; ").unwrap();
+        assert_eq!(forced.err, format!("{said}{written}"), "{plan}");
+        assert_eq!((forced.out, forced.status), (bytes(plan), 1), "{plan}");
     }
 }
 

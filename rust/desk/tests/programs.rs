@@ -71,7 +71,7 @@ fn words_that_do_not_go_together() {
     refused(
         COMPILE,
         &["--hex", "--text", "a"],
-        "spwd-compile: one option at a time; see spwd-compile --help\n",
+        "spwd-compile: --text goes with no other option; see spwd-compile --help\n",
     );
     refused(
         COMPILE,

@@ -3,7 +3,7 @@
 
 mod common;
 
-use common::{bytes, plans, Chance};
+use common::{bytes, damaged, plans, Chance};
 use desk::judge::judge;
 use desk::page::page;
 use desk::plan::Plan;
@@ -11,38 +11,15 @@ use desk::source::Source;
 use spwd::{Fault, Verdict};
 use std::collections::BTreeSet;
 
-/// A plan with a byte changed, or with fields left out, doubled or exchanged.
-fn damaged(chance: &mut Chance, file: &[u8]) -> Vec<u8> {
-    let mut file = file.to_vec();
-    for _ in 0..1 + chance.below(2) {
-        if file.is_empty() {
-            return file;
-        }
-        let at = chance.below(file.len());
-        match chance.below(4) {
-            0 => file[at] ^= 1 << chance.below(8),
-            1 => file[at] = chance.below(20) as u8,
-            2 => file.truncate(at),
-            _ => {
-                let fields = desk::fields::fields(&file);
-                let mut parts: Vec<_> = fields.iter().map(|field| field.bytes).collect();
-                let (one, other) = (chance.below(parts.len()), chance.below(parts.len()));
-                match chance.below(3) {
-                    0 => parts.insert(one, parts[other]),
-                    1 => drop(parts.remove(one)),
-                    _ => parts.swap(one, other),
-                }
-                file = parts.concat();
-            }
-        }
-    }
-    file
+/// The first part of a page behind the verdict's own lines; an empty line parts them.
+fn behind(lines: &[String]) -> &[String] {
+    lines.split(String::is_empty).nth(1).unwrap_or(&[])
 }
 
-/// Lines of a page behind the verdict's own, which are up to the first empty line.
-fn behind(lines: &[String]) -> &[String] {
-    let end = lines.iter().position(String::is_empty);
-    end.map_or(&[], |end| &lines[end + 1..])
+/// A part that is not about the verdict's own fault.
+fn of_others(part: &[String]) -> bool {
+    let heads = ["further faults", "all ", "what is left without ", "table "];
+    heads.iter().any(|head| part[0].starts_with(head))
 }
 
 /// What a page must say beside the card's words.
@@ -55,9 +32,13 @@ fn explained(file: &[u8], verdict: &Verdict, lines: &[String]) {
     match *verdict {
         Verdict::Accepted(_) => assert!(behind.len() > 4),
         Verdict::Refused(Fault::File {
-            number: Verdict::FILE_TOO_LONG | Verdict::NO_INTERVALS,
+            number: Verdict::FILE_TOO_LONG,
             ..
         }) => assert!(behind.is_empty()),
+        Verdict::Refused(Fault::File {
+            number: Verdict::NO_INTERVALS,
+            ..
+        }) => assert!(behind.is_empty() || of_others(behind), "{lines:?}"),
         Verdict::Refused(Fault::File {
             number: Verdict::NO_ENTRY,
             ..

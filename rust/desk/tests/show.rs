@@ -132,11 +132,17 @@ fn from_bytes() {
         let plan = format!("plans/{name}.plan");
         let ran = run(SHOW, &[], &bytes(&plan));
         let page = expected(&format!("show/{name}.txt"));
-        let lines = page
+        let listed = ["  9: ", "  11: ", "  slots "];
+        let listed = |line: &&str| listed.iter().any(|start| line.starts_with(start));
+        let (places, lines): (Vec<_>, Vec<_>) = ran.text().lines().partition(listed);
+        let (lines_of_text, others): (Vec<_>, Vec<_>) = page
             .lines()
-            .filter(|line| !line.contains(&format!("{plan}:")));
-        let page: String = lines.map(|line| format!("{line}\n")).collect();
-        assert_eq!(ran.text(), page, "{plan}");
+            .filter(|line| listed(line) || !line.contains(&format!("{plan}:")))
+            .partition(listed);
+        assert_eq!(lines, others, "{plan}");
+        assert_eq!(places.len(), lines_of_text.len(), "{plan}");
+        let offsets = |line: &&str| line.contains(": offset ") || line.contains("(offset ");
+        assert!(places.iter().all(offsets), "{places:?}");
         assert_eq!(ran.err, "", "{plan}");
     }
 }

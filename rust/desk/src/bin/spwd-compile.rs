@@ -2,22 +2,29 @@
 #![forbid(unsafe_code)]
 
 use desk::arguments::{asked, version, Asked};
-use desk::judge::{in_words, judge, place};
+use desk::fingerprint::fingerprint;
+use desk::further::{further, sifted};
+use desk::judge::{in_words, judge, place, Judged};
+use desk::kind::{kind, Kind};
 use desk::page::behind;
 use desk::source::Source;
 use desk::streams::{fail, put, put_lines, say, Input, Status};
+use desk::taken::{hint, recognised, taken, Form};
 use desk::text::text_of;
-use spwd::Verdict;
+use spwd::{Fault, Verdict};
 use std::ffi::OsString;
 use std::process::ExitCode;
 
 const NAME: &str = "spwd-compile";
 
 const HELP: &str = "\
-spwd-compile FILE          the text form of a plan to its plan file, on standard output
-spwd-compile --hex FILE    the same in one line of lowercase hex, as `load` of a script takes it
-spwd-compile --text FILE   a plan file, or any bytes, to text that compiles to the same bytes
-spwd-compile --help        this, as -h; --version says which one this is
+spwd-compile FILE              the text form of a plan to its plan file, on standard output
+spwd-compile --hex FILE        the same in one line of lowercase hex, as `load` of a script takes it
+spwd-compile --canonical FILE  the plan in the order in which a box writes it out, whose first 16 digits of
+                               sha256sum are its fingerprint; FILE may be a plan file here. Also with --hex
+spwd-compile --force FILE      also a plan that the box refuses, in the order of the text. Also with --hex
+spwd-compile --text FILE       a plan file, or any bytes, to text that compiles to the same bytes
+spwd-compile --help            this, as -h; --version says which one this is
 
 FILE may be - for standard input.
 
@@ -36,11 +43,11 @@ The text form has one item a line, and # starts a comment:
 The items stand in this order: devices, links, paths, entries, intervals, times, replies.
 
 A line that is none of these is said on standard error with what would be right, and nothing is written.
-Else the bytes are written, and the verdict of the box on them is said on standard error; if it refuses
-them, also the line that it is about.
+Else the verdict of the box is said there, with the fingerprint of the plan; or, if it refuses the plan, with the
+lines that are at fault, and nothing is written unless --force was given.
 
-Status: 0 accepted (with --text: done), 1 the box refuses the plan (its bytes are written all the same), 2 the
-text has lines that are no item, 3 wrong arguments, or a file that cannot be read or written.
+Status: 0 accepted (with --text: done), 1 the box refuses the plan, with --force too, 2 the text has lines that
+are no item, 3 wrong arguments, or a file that cannot be read or written.
 A reader that closes the pipe early is no failure.
 ";
 
@@ -48,24 +55,46 @@ A reader that closes the pipe early is no failure.
 const TEXT: u64 = 16 << 20;
 const FILE: u64 = 1 << 20;
 
+const OPTIONS: [&str; 4] = ["--hex", "--canonical", "--force", "--text"];
+
 fn main() -> ExitCode {
-    let status = match asked(std::env::args_os().skip(1), &["--hex", "--text"]) {
+    let status = match asked(std::env::args_os().skip(1), &OPTIONS) {
         Ok(Asked::Help) => put(HELP.as_bytes()).map(|()| Status::Done),
         Ok(Asked::Version) => put(version(NAME).as_bytes()).map(|()| Status::Done),
         Ok(Asked::Run { options, file }) => run(&options, file),
-        Err(wrong) => Err(format!("{wrong}; see {NAME} --help")),
+        Err(wrong) => Err(see(&wrong)),
     };
     status.unwrap_or_else(|what| fail(NAME, &what)).into()
 }
 
+fn see(wrong: &str) -> String {
+    format!("{wrong}; see {NAME} --help")
+}
+
+/// What is to be written.
+struct Wanted {
+    hex: bool,
+    canonical: bool,
+    force: bool,
+}
+
 fn run(options: &[&str], file: Option<OsString>) -> Result<Status, String> {
+    let has = |name| options.contains(&name);
     let input = Input::of(file.clone());
-    match (options, file) {
-        (_, None) => Err(format!("a file is missing; see {NAME} --help")),
-        ([], _) => compile(&input, <[u8]>::to_vec),
-        (["--hex"], _) => compile(&input, hex_line),
-        (["--text"], _) => back(&input),
-        _ => Err(format!("one option at a time; see {NAME} --help")),
+    match (has("--text"), file) {
+        (_, None) => Err(see("a file is missing")),
+        (true, _) if options.iter().any(|&option| option != "--text") => {
+            Err(see("--text goes with no other option"))
+        }
+        (true, _) => back(&input),
+        (false, _) => {
+            let wanted = Wanted {
+                hex: has("--hex"),
+                canonical: has("--canonical"),
+                force: has("--force"),
+            };
+            compile(&input, &wanted)
+        }
     }
 }
 
@@ -76,45 +105,85 @@ fn hex_line(bytes: &[u8]) -> Vec<u8> {
     format!("{digits}\n").into_bytes()
 }
 
-/// Writes the bytes of a text in a form, and says the verdict on them.
-fn compile(input: &Input, form: fn(&[u8]) -> Vec<u8>) -> Result<Status, String> {
-    let source = match Source::text(input.name(), &input.read(TEXT)?) {
+/// The plan of a text; where a canonical file is wanted, of a plan file too.
+fn source(input: &Input, wanted: &Wanted) -> Result<Result<Source, Vec<String>>, String> {
+    let read = input.read(TEXT)?;
+    Ok(match wanted.canonical {
+        true => recognised(input, &read),
+        false => taken(NAME, input, &read, Form::Text),
+    })
+}
+
+/// Writes the plan, and says the verdict on it.
+fn compile(input: &Input, wanted: &Wanted) -> Result<Status, String> {
+    let source = match source(input, wanted)? {
         Ok(source) => source,
         Err(complaints) => {
             say(&complaints);
             return Ok(Status::Complaints);
         }
     };
-    put(&form(source.bytes()))?;
-    let verdict = judge(source.bytes()).verdict;
-    say(&verdict_on(&source, &verdict));
-    Ok(if verdict.is_accepted() {
-        Status::Done
-    } else {
-        Status::Refused
-    })
+    let judged = judge(source.bytes());
+    let Verdict::Refused(fault) = judged.verdict else {
+        let bytes = match wanted.canonical {
+            true => &judged.held,
+            false => source.bytes(),
+        };
+        put(&wanted.form(bytes))?;
+        say(&[accepted(&source, &judged)]);
+        return Ok(Status::Done);
+    };
+    let mut lines = refused(&source, &fault);
+    lines.push(match (wanted.canonical, wanted.force) {
+        (true, _) => "nothing is written: a plan that is refused has no canonical file".to_string(),
+        (_, false) => "nothing is written; --force writes it all the same".to_string(),
+        (_, true) => {
+            put(&wanted.form(source.bytes()))?;
+            "written all the same, for --force".to_string()
+        }
+    });
+    say(&lines);
+    Ok(Status::Refused)
 }
 
-/// The verdict in a line if the plan is accepted, else in words with what it is about.
-fn verdict_on(source: &Source, verdict: &Verdict) -> Vec<String> {
-    match verdict {
-        Verdict::Accepted(_) => {
-            let counts = place(verdict).unwrap_or_default();
-            vec![format!("{}: {verdict}: {counts}", source.name)]
-        }
-        Verdict::Refused(fault) => {
-            let mut lines = in_words(verdict);
-            lines[0] = format!("{}: {}", source.name, lines[0]);
-            lines.extend(behind(source, fault));
-            lines
+impl Wanted {
+    fn form(&self, bytes: &[u8]) -> Vec<u8> {
+        match self.hex {
+            true => hex_line(bytes),
+            false => bytes.to_vec(),
         }
     }
 }
 
+/// The verdict in a line.
+fn accepted(source: &Source, judged: &Judged) -> String {
+    let (name, verdict) = (&source.name, &judged.verdict);
+    let counts = place(verdict).unwrap_or_default();
+    let fingerprint = fingerprint(&judged.held);
+    format!("{name}: {verdict}: {counts}, fingerprint {fingerprint}")
+}
+
+/// The verdict in words, with what it is about and what else is at fault.
+fn refused(source: &Source, fault: &Fault) -> Vec<String> {
+    let mut lines = in_words(&Verdict::Refused(*fault));
+    lines[0] = format!("{}: {}", source.name, lines[0]);
+    lines.extend(hint(source).map(|hint| format!("    {hint}")));
+    lines.extend(behind(source, fault));
+    lines.extend(further(source, &sifted(source), fault));
+    lines
+}
+
+/// Text of any bytes; of what is text already that is said.
 fn back(input: &Input) -> Result<Status, String> {
     let bytes = input.read(FILE)?;
     let mut lines = vec![format!("# verdict: {}", judge(&bytes).verdict)];
     lines.extend(text_of(&bytes));
     put_lines(&lines)?;
+    if kind(&bytes) == Kind::Text {
+        let name = input.name();
+        say(&[format!(
+            "{name}: this looks like a plan in text already: without --text a plan file is made of it"
+        )]);
+    }
     Ok(Status::Done)
 }

@@ -9,6 +9,7 @@ use desk::plan::Plan;
 use desk::sheet::{of_plan, with_times, Asked};
 use desk::source::Source;
 use desk::streams::{fail, put, put_lines, say, Input, Status};
+use desk::taken::{taken, Form};
 use desk::ways::Routers;
 use spwd::{Latencies, SheetOutOfRange};
 use std::ffi::OsString;
@@ -23,8 +24,8 @@ spwd-sheet --routers R --rate S --latencies A D F G LENGTH..  the sheet by itsel
 spwd-sheet --routers R --reply-routers B --rate S ..          the same for a reply with a way of its own
 spwd-sheet --help                                             this, as -h; --version says which one this is
 
-FILE is a plan file, or the text form of a plan if its name ends in .plan; --text says that it is the text
-form, --bytes that it is a plan file, whatever its name. Without FILE, or with -, standard input is read.
+FILE is a plan file, or the text form of a plan; which, is seen by what is in it. --text says that it is the text
+form, --bytes that it is a plan file, whatever is in it. Without FILE, or with -, standard input is read.
 
 Of a plan: for each path its routers, and those of its reply where they are not as many, and the time of some
 lengths; the largest length that its entries permit for each of their spans (none: not even 0 bytes fit); and
@@ -79,14 +80,11 @@ fn run(options: &Options, others: Vec<OsString>) -> Result<Status, String> {
     let reply = own("--reply-routers")?;
     match (alone, plan) {
         ([None, ..], _) if reply.is_some() => Err(see("--reply-routers goes with --routers")),
-        ([None, None, None], [Some(_), Some(_), _]) => {
-            Err(see("--text and --bytes exclude each other"))
-        }
         ([None, None, None], [text, bytes, times]) => {
             let input = Input::of(one_file(others).map_err(|wrong| see(&wrong))?);
-            let is_text = text.is_some() || (bytes.is_none() && input.is_plan());
+            let form = Form::of(text.is_some(), bytes.is_some()).map_err(see)?;
             let times = times.map(field).transpose().map_err(|wrong| see(&wrong))?;
-            of_file(&input, is_text, times.as_deref())
+            of_file(&input, form, times.as_deref())
         }
         ([Some(routers), Some(rate), Some(latencies)], [None, None, None]) => {
             let ways = [routers, reply.unwrap_or(routers)];
@@ -152,12 +150,8 @@ fn by_itself(asked: &Asked, lengths: &[u16]) -> Result<Status, String> {
     }
 }
 
-fn of_file(input: &Input, is_text: bool, times: Option<&[u8]>) -> Result<Status, String> {
-    let (name, read) = (input.name(), input.read(MOST)?);
-    if !is_text {
-        return show(Source::file(name, read), times);
-    }
-    match Source::text(name, &read) {
+fn of_file(input: &Input, form: Form, times: Option<&[u8]>) -> Result<Status, String> {
+    match taken(NAME, input, &input.read(MOST)?, form) {
         Ok(source) => show(source, times),
         Err(complaints) => {
             say(&complaints);

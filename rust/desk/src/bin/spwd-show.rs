@@ -7,6 +7,7 @@ use desk::judge::judge;
 use desk::page::page;
 use desk::source::Source;
 use desk::streams::{fail, put, put_lines, say, Input, Status};
+use desk::taken::{taken, Form};
 use desk::turns::{Question, Wanted};
 use desk::words::{self, Advice};
 use std::ffi::OsString;
@@ -21,14 +22,15 @@ spwd-show --next I T D SLOT ..        the next one after this slot
 spwd-show --page ..                   the same as a page to print and tape to the box: one HTML file
 spwd-show --help                      this, as -h; --version says which one this is
 
-FILE is a plan file, or the text form of a plan if its name ends in .plan; --text says that it is the text
-form, --bytes that it is a plan file, whatever its name. Without FILE, or with -, standard input is read.
+FILE is a plan file, or the text form of a plan; which, is seen by what is in it. --text says that it is the text
+form, --bytes that it is a plan file, whatever is in it. Without FILE, or with -, standard input is read.
 
-An accepted plan is shown as the box holds it: devices, links, paths with the replies that have a way of their
-own, intervals, slot times, the table of sixty-four slots, and targets of entries that the slot times never
-permit.
+An accepted plan is shown as a box holds it: its fingerprint, devices, links, paths with the replies that have a
+way of their own, intervals, slot times, the table of sixty-four slots, and targets of entries that the slot
+times never permit.
 Of a refused plan the field, or the entries, paths and replies, that the refusal is about are shown; of a plan
-with no entry what it has, and the initiators that are left without one.
+with no entry what it has, and the initiators that are left without one. Then come all further faults, and the
+table of the entries that are not at fault.
 
 A page has the plan's fingerprint, its network and its table drawn, its paths, the times of a plan with slot
 times, and the turns of each pair; of a refused plan what can be read, with what is at fault marked. It needs
@@ -77,10 +79,7 @@ fn see(wrong: &str) -> String {
 
 fn run(options: &Options, mut others: Vec<OsString>) -> Result<Status, String> {
     let has = |name| options.iter().any(|(option, _)| *option == name);
-    let (text, bytes) = (has("--text"), has("--bytes"));
-    if text && bytes {
-        return Err(see("--text and --bytes exclude each other"));
-    }
+    let form = Form::of(has("--text"), has("--bytes")).map_err(see)?;
     let page = given_page(options).map_err(|wrong| see(&wrong))?;
     let question = question(options, &mut others).map_err(|wrong| see(&wrong))?;
     let show = |source: &Source| match &page {
@@ -88,11 +87,7 @@ fn run(options: &Options, mut others: Vec<OsString>) -> Result<Status, String> {
         None => show(source, question),
     };
     let input = Input::of(one_file(others).map_err(|wrong| see(&wrong))?);
-    let (name, read) = (input.name(), input.read(MOST)?);
-    if !text && (bytes || !input.is_plan()) {
-        return show(&Source::file(name, read));
-    }
-    match Source::text(name, &read) {
+    match taken(NAME, &input, &input.read(MOST)?, form) {
         Ok(source) => show(&source),
         Err(complaints) => {
             say(&complaints);

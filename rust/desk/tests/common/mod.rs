@@ -102,3 +102,31 @@ impl Chance {
         self.next() as u8
     }
 }
+
+/// A plan with a byte changed, or with fields left out, doubled or exchanged.
+pub fn damaged(chance: &mut Chance, file: &[u8]) -> Vec<u8> {
+    let mut file = file.to_vec();
+    for _ in 0..1 + chance.below(2) {
+        if file.is_empty() {
+            return file;
+        }
+        let at = chance.below(file.len());
+        match chance.below(4) {
+            0 => file[at] ^= 1 << chance.below(8),
+            1 => file[at] = chance.below(20) as u8,
+            2 => file.truncate(at),
+            _ => {
+                let fields = desk::fields::fields(&file);
+                let mut parts: Vec<_> = fields.iter().map(|field| field.bytes).collect();
+                let (one, other) = (chance.below(parts.len()), chance.below(parts.len()));
+                match chance.below(3) {
+                    0 => parts.insert(one, parts[other]),
+                    1 => drop(parts.remove(one)),
+                    _ => parts.swap(one, other),
+                }
+                file = parts.concat();
+            }
+        }
+    }
+    file
+}
