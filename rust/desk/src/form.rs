@@ -1,61 +1,143 @@
-//! The text form of a plan: one item a line, `#` starts a comment. A line becomes the bytes of its field, whatever its numbers say.
+//! The text form of a plan: one item a line, `#` starts a comment. A line becomes the bytes of its field, whatever its numbers say; a line
+//! that names a device becomes none.
 
 use crate::layout::{printable, shortened};
-use crate::names::Names;
+use crate::names::{name_of, Named, Names};
+use crate::plan::Plan;
+use std::collections::BTreeSet;
 
-/// A kind of line: its first word, how many words follow, and the form as a person writes it.
+/// A kind of line: its first word, how many words follow, what they are, and the form as a person writes it.
 struct Form {
     word: &'static str,
     least: usize,
-    most: usize,
+    most: Most,
+    /// Of the words that are numbers; the last also of those that follow.
+    numbers: &'static [Number],
     form: &'static str,
 }
 
-const FORMS: [Form; 9] = [
-    form("node", 1, 1, "node N"),
-    form("router", 1, 1, "router N"),
-    form("link", 3, 3, "link N A B (link N joins devices A and B)"),
+/// How many words may follow.
+enum Most {
+    Words(usize),
+    /// As many as a field can have bytes; of these kinds of things, which stand behind so many words, the box takes so many.
+    Field {
+        behind: usize,
+        things: usize,
+        name: &'static str,
+    },
+    Any,
+}
+
+/// What a number may be for the box to take it, and how many bytes it is written in; what these have room for is not refused here.
+#[derive(Clone, Copy)]
+struct Number {
+    least: u32,
+    most: u32,
+    bytes: usize,
+}
+
+const fn number_of(least: u32, most: u32, bytes: usize) -> Number {
+    Number { least, most, bytes }
+}
+
+/// Of a device, a link or a slot.
+const NUMBER: Number = number_of(0, 63, 1);
+const SPAN: Number = number_of(1, 16, 1);
+const LEAST: Number = number_of(0, 2_147_483_647, 4);
+const GREATEST: Number = number_of(1, 2_147_483_647, 4);
+const RATE: Number = number_of(2, 400, 2);
+const TIME: Number = number_of(0, 1_000_000, 4);
+
+const LINKS: Most = Most::Field {
+    behind: 2,
+    things: 8,
+    name: "links",
+};
+
+const TARGETS: Most = Most::Field {
+    behind: 3,
+    things: 16,
+    name: "targets",
+};
+
+const FORMS: [Form; 10] = [
+    form("node", 1, Most::Words(1), &[NUMBER], "node N"),
+    form("router", 1, Most::Words(1), &[NUMBER], "router N"),
+    form(
+        "link",
+        3,
+        Most::Words(3),
+        &[NUMBER],
+        "link N A B (link N joins devices A and B)",
+    ),
     form(
         "path",
         3,
-        MOST,
+        LINKS,
+        &[NUMBER],
         "path I T L.. (from initiator I to target T over the links L)",
     ),
     form(
         "entry",
         4,
-        MOST,
+        TARGETS,
+        &[NUMBER, NUMBER, SPAN, NUMBER],
         "entry I S N T.. (initiator I at slot S with span N may start to the targets T)",
     ),
-    form("intervals", 2, 2, "intervals LEAST GREATEST"),
+    form(
+        "intervals",
+        2,
+        Most::Words(2),
+        &[LEAST, GREATEST],
+        "intervals LEAST GREATEST",
+    ),
     form(
         "times",
         6,
-        6,
+        Most::Words(6),
+        &TIMES,
         "times S A D F G SLOT (S Mbit/s, latencies A D F G and slot length SLOT in ns)",
     ),
     form(
         "reply",
         3,
-        MOST,
+        LINKS,
+        &[NUMBER],
         "reply I T L.. (from target T back to initiator I over the links L)",
+    ),
+    form(
+        "name",
+        2,
+        Most::Any,
+        &[NUMBER],
+        "name N WORDS (device N is called WORDS on pages; no part of the file)",
     ),
     form(
         "bytes",
         1,
-        usize::MAX,
+        Most::Any,
+        &[],
         "bytes HH.. (bytes as they are, two hex digits each)",
     ),
 ];
 
+const TIMES: [Number; 2] = [RATE, TIME];
+
 /// The greatest length that a field can state.
 const MOST: usize = 65_535;
 
-const fn form(word: &'static str, least: usize, most: usize, form: &'static str) -> Form {
+const fn form(
+    word: &'static str,
+    least: usize,
+    most: Most,
+    numbers: &'static [Number],
+    form: &'static str,
+) -> Form {
     Form {
         word,
         least,
         most,
+        numbers,
         form,
     }
 }
@@ -119,38 +201,118 @@ impl Compiled {
 
 /// All complaints, if there is one.
 pub fn compile(text: &[u8]) -> Result<Compiled, Vec<Complaint>> {
-    let mut compiled = Compiled::default();
-    let mut complaints = Vec::new();
+    let mut reading = Reading::default();
     // Some editors put a byte order mark in front.
     let text = text.strip_prefix("\u{feff}".as_bytes()).unwrap_or(text);
     for (index, line) in text.split(|&byte| byte == b'\n').enumerate() {
-        let line = printable(line.trim_ascii());
-        let item = line.split('#').next().unwrap_or_default().trim_ascii();
-        let mut words = item.split_ascii_whitespace();
-        let Some(first) = words.next() else {
-            continue;
+        reading.line(index + 1, line.trim_ascii());
+    }
+    reading.end()
+}
+
+/// A text as far as it is read.
+#[derive(Default)]
+struct Reading {
+    compiled: Compiled,
+    /// Of the lines that give devices by their words.
+    devices: BTreeSet<u8>,
+    named: Named,
+    complaints: Vec<Complaint>,
+    /// Whether a line that is no item, and no name, may have given a device.
+    missing: bool,
+}
+
+impl Reading {
+    fn line(&mut self, number: usize, line: &[u8]) {
+        let text = printable(line);
+        let item = item_of(&text);
+        let words = words_of(item);
+        let Some((&first, rest)) = words.split_first() else {
+            return;
         };
-        match bytes_of(first, &words.collect::<Vec<_>>()) {
-            Ok(bytes) => {
-                let start = compiled.bytes.len();
-                compiled.lines.push((start, index + 1, item.to_string()));
-                compiled.bytes.extend(bytes);
-            }
-            Err(right) => complaints.push(Complaint {
-                line: index + 1,
-                text: line,
-                right,
-            }),
+        let read = match first {
+            "name" => self.name(number, &text, rest, &String::from_utf8_lossy(line)),
+            _ => self.item(number, item, first, rest),
+        };
+        self.missing |= read.is_err() && first != "name";
+        if let Err(right) = read {
+            self.complain(number, text, right);
         }
     }
-    if complaints.is_empty() {
-        Ok(compiled)
-    } else {
-        Err(complaints)
+
+    fn complain(&mut self, line: usize, text: String, right: Vec<String>) {
+        self.complaints.push(Complaint { line, text, right });
+    }
+
+    fn item(
+        &mut self,
+        number: usize,
+        item: &str,
+        first: &str,
+        words: &[&str],
+    ) -> Result<(), Vec<String>> {
+        let bytes = bytes_of(first, words)?;
+        if let ("node" | "router", &[.., device, _]) = (first, &bytes[..]) {
+            self.devices.insert(device);
+        }
+        let start = self.compiled.bytes.len();
+        self.compiled.lines.push((start, number, item.to_string()));
+        self.compiled.bytes.extend(bytes);
+        Ok(())
+    }
+
+    /// The words that are shown, and the line as it is: what nobody sees has no place in a name.
+    fn name(
+        &mut self,
+        number: usize,
+        text: &str,
+        words: &[&str],
+        line: &str,
+    ) -> Result<(), Vec<String>> {
+        form_of("name", words.len())?;
+        let device = value(words[0], NUMBER.least, NUMBER.most, NUMBER.most);
+        let name = name_of(&words_of(item_of(line))[2..]);
+        match (device, name) {
+            (Ok(device), Ok(name)) => {
+                let given = self.named.give(number, text, device as u8, name);
+                given.map_err(|wrong| vec![wrong])
+            }
+            (device, name) => Err([device.err(), name.err()].into_iter().flatten().collect()),
+        }
+    }
+
+    /// A name whose device is missing is no fault of its line where a line that might give the device is faulty.
+    fn end(mut self) -> Result<Compiled, Vec<Complaint>> {
+        let given = Plan::of(&self.compiled.bytes).devices;
+        self.devices
+            .extend(given.iter().map(|device| device.number));
+        if !self.missing {
+            for (line, text, wrong) in self.named.without(&self.devices) {
+                self.complain(line, text, vec![wrong]);
+            }
+        }
+        if !self.complaints.is_empty() {
+            self.complaints.sort_by_key(|complaint| complaint.line);
+            return Err(self.complaints);
+        }
+        self.compiled.names = self.named.names;
+        Ok(self.compiled)
     }
 }
 
-fn bytes_of(first: &str, words: &[&str]) -> Result<Vec<u8>, Vec<String>> {
+/// What stands before a comment.
+fn item_of(line: &str) -> &str {
+    let item = line.split('#').next();
+    item.unwrap_or_default().trim_ascii()
+}
+
+fn words_of(item: &str) -> Vec<&str> {
+    let words = item.split([' ', '\t']);
+    words.filter(|word| !word.is_empty()).collect()
+}
+
+/// The form that begins with a word, if so many may follow it.
+fn form_of(first: &str, words: usize) -> Result<&'static Form, Vec<String>> {
     let Some(form) = FORMS.iter().find(|form| form.word == first) else {
         let names: Vec<_> = FORMS.iter().map(|form| form.word).collect();
         return Err(vec![format!(
@@ -158,68 +320,97 @@ fn bytes_of(first: &str, words: &[&str]) -> Result<Vec<u8>, Vec<String>> {
             names.join(", ")
         )]);
     };
-    if !(form.least..=form.most).contains(&words.len()) {
-        return Err(vec![count(form, words.len())]);
-    }
-    match form.word {
-        "node" => Ok(field(1, &[each(words, byte)?, vec![0]].concat())),
-        "router" => Ok(field(1, &[each(words, byte)?, vec![1]].concat())),
-        "link" => Ok(field(2, &each(words, byte)?)),
-        "path" => Ok(field(3, &each(words, byte)?)),
-        "entry" => Ok(field(4, &each(words, byte)?)),
-        "intervals" => Ok(field(5, &each(words, long)?.concat())),
-        "times" => times(words),
-        "reply" => Ok(field(7, &each(words, byte)?)),
-        _ => each(words, hex),
+    match form.count(words) {
+        None => Ok(form),
+        Some(right) => Err(vec![format!(
+            "behind '{}' stand {words} words and should stand {right}: {}",
+            form.word, form.form
+        )]),
     }
 }
 
-/// What is right where there are too few or too many words.
-fn count(form: &Form, words: usize) -> String {
-    let Form { least, most, .. } = *form;
-    let right = match words {
-        _ if least == most => least.to_string(),
-        words if words > most => format!("at most {most}"),
-        _ => format!("at least {least}"),
-    };
-    format!(
-        "behind '{}' stand {words} words and should stand {right}: {}",
-        form.word, form.form
-    )
-}
-
-/// The value of each word, or all complaints about them.
-fn each<T>(words: &[&str], value: fn(&str) -> Result<T, String>) -> Result<Vec<T>, Vec<String>> {
-    let (mut values, mut complaints) = (Vec::new(), Vec::new());
-    for word in words {
-        match value(word) {
-            Ok(value) => values.push(value),
-            Err(complaint) => complaints.push(complaint),
+impl Form {
+    /// What is right where there are too few or too many words.
+    fn count(&self, words: usize) -> Option<String> {
+        let least = self.least;
+        match self.most {
+            Most::Words(most) if most == least => (words != least).then(|| least.to_string()),
+            _ if words < least => Some(format!("at least {least}")),
+            Most::Field {
+                behind,
+                things,
+                name,
+            } if words > MOST => {
+                let most = behind + things;
+                Some(format!("at most {most} ({things} {name})"))
+            }
+            _ => None,
         }
     }
-    if complaints.is_empty() {
-        Ok(values)
-    } else {
-        Err(complaints)
+
+    /// The bytes of each word, or all complaints about them.
+    fn written(&self, words: &[&str]) -> Result<Vec<u8>, Vec<String>> {
+        written(words, self.numbers)
     }
+}
+
+fn bytes_of(first: &str, words: &[&str]) -> Result<Vec<u8>, Vec<String>> {
+    let form = form_of(first, words.len())?;
+    match form.word {
+        "node" => Ok(field(1, &[form.written(words)?, vec![0]].concat())),
+        "router" => Ok(field(1, &[form.written(words)?, vec![1]].concat())),
+        "link" => Ok(field(2, &form.written(words)?)),
+        "path" => Ok(field(3, &form.written(words)?)),
+        "entry" => Ok(field(4, &form.written(words)?)),
+        "intervals" => Ok(field(5, &form.written(words)?)),
+        "times" => times(words),
+        "reply" => Ok(field(7, &form.written(words)?)),
+        _ => each(words.iter().map(|word| hex(word))),
+    }
+}
+
+/// All values, or all complaints.
+fn each<T>(values: impl Iterator<Item = Result<T, String>>) -> Result<Vec<T>, Vec<String>> {
+    let (mut right, mut wrong) = (Vec::new(), Vec::new());
+    for value in values {
+        match value {
+            Ok(value) => right.push(value),
+            Err(complaint) => wrong.push(complaint),
+        }
+    }
+    if wrong.is_empty() {
+        Ok(right)
+    } else {
+        Err(wrong)
+    }
+}
+
+/// Each word as a number of its kind, high byte first; the last kind is also that of the words that follow.
+fn written(words: &[&str], numbers: &[Number]) -> Result<Vec<u8>, Vec<String>> {
+    let kinds = numbers.iter().chain(numbers.last().into_iter().cycle());
+    let bytes = words.iter().zip(kinds).map(|(word, kind)| {
+        let room = u32::MAX >> (32 - 8 * kind.bytes);
+        let number = value(word, kind.least, kind.most, room)?;
+        Ok(number.to_be_bytes()[4 - kind.bytes..].to_vec())
+    });
+    each(bytes).map(|bytes| bytes.concat())
 }
 
 /// The field of slot times: the rate in two bytes and the other numbers in four; or all complaints about them.
 pub fn times(words: &[&str]) -> Result<Vec<u8>, Vec<String>> {
-    let (rate, others) = words.split_at(words.len().min(1));
-    match (each(rate, short), each(others, long)) {
-        (Ok(rate), Ok(others)) => Ok(field(6, &[rate.concat(), others.concat()].concat())),
-        (rate, others) => Err([rate.err(), others.err()]
-            .map(Option::unwrap_or_default)
-            .concat()),
-    }
+    Ok(field(6, &written(words, &TIMES)?))
 }
 
 /// A number in decimal digits, at most `most`.
 pub fn number(word: &str, most: u32) -> Result<u32, String> {
+    value(word, 0, most, most)
+}
+
+/// A number that there is room for; where there is none, what would be right.
+fn value(word: &str, least: u32, most: u32, room: u32) -> Result<u32, String> {
     if !word.bytes().all(|digit| digit.is_ascii_digit()) {
         return Err(format!(
-            "'{word}' is no number; right is a number in decimal digits, 0 to {most}"
+            "'{word}' is no number; right is a number in decimal digits, {least} to {most}"
         ));
     }
     let digits = word.trim_start_matches('0');
@@ -228,23 +419,11 @@ pub fn number(word: &str, most: u32) -> Result<u32, String> {
     } else {
         digits.parse()
     } {
-        Ok(number) if number <= most => Ok(number),
+        Ok(number) if number <= room => Ok(number),
         _ => Err(format!(
-            "{word} is too great; right is a number from 0 to {most}"
+            "{word} is too great; right is a number from {least} to {most}"
         )),
     }
-}
-
-fn byte(word: &str) -> Result<u8, String> {
-    number(word, 255).map(|number| number as u8)
-}
-
-fn short(word: &str) -> Result<[u8; 2], String> {
-    number(word, u16::MAX.into()).map(|number| (number as u16).to_be_bytes())
-}
-
-fn long(word: &str) -> Result<[u8; 4], String> {
-    number(word, u32::MAX).map(u32::to_be_bytes)
 }
 
 fn hex(word: &str) -> Result<u8, String> {

@@ -1,15 +1,17 @@
 //! Lines for people: printable text, lists that are wrapped, bytes in hex.
 
+use crate::invisible::is_invisible;
+
 /// The width that lists are wrapped at.
 pub const WIDTH: usize = 80;
 
-/// Text that a terminal shows as it is: what is no UTF-8 is replaced, and what is no printing character is escaped.
+/// Text that a terminal shows as it is: what is no UTF-8 is replaced, and what nobody would see is shown as its code.
 pub fn printable(bytes: &[u8]) -> String {
     let mut text = String::new();
     for character in String::from_utf8_lossy(bytes).chars() {
         match character {
             '\t' => text.push(character),
-            _ if character.is_control() => text.extend(character.escape_default()),
+            _ if is_invisible(character) => text.extend(character.escape_default()),
             _ => text.push(character),
         }
     }

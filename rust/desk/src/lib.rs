@@ -15,6 +15,7 @@ pub mod form;
 pub mod further;
 pub mod grid;
 pub mod html;
+pub mod invisible;
 pub mod judge;
 pub mod kind;
 pub mod layout;

@@ -1,11 +1,13 @@
 //! An accepted plan's network: devices, links, paths and replies, intervals, slot times.
 
 use crate::layout::{wrapped, WIDTH};
+use crate::names::Names;
 use crate::plan::Plan;
 use crate::sheet::in_words;
 
-pub fn network(plan: &Plan) -> Vec<String> {
+pub fn network(plan: &Plan, names: &Names) -> Vec<String> {
     let mut lines = devices(plan);
+    lines.extend(named(names));
     lines.extend(links(plan));
     lines.extend(paths(plan));
     if let Some(timing) = plan.timing {
@@ -33,6 +35,17 @@ fn devices(plan: &Plan) -> Vec<String> {
         } else {
             lines.extend(wrapped(head, &numbers));
         }
+    }
+    lines
+}
+
+fn named(names: &Names) -> Vec<String> {
+    let names = names.iter();
+    let mut lines: Vec<_> = names
+        .map(|(device, name)| format!("  {device}: {name}"))
+        .collect();
+    if !lines.is_empty() {
+        lines.insert(0, "names".to_string());
     }
     lines
 }

@@ -7,6 +7,7 @@ use crate::further::{further, sifted, Sifted};
 use crate::grid::grid;
 use crate::judge::{in_words, judge, Judged};
 use crate::layout::wrapped;
+use crate::names::Names;
 use crate::network::network;
 use crate::no_entry::no_entry;
 use crate::plan::Plan;
@@ -23,7 +24,7 @@ pub fn page(source: &Source) -> (Vec<String>, bool) {
     let parts = match &judged.verdict {
         Verdict::Accepted(_) => {
             lines.push(format!("    fingerprint {}", fingerprint(&judged.held)));
-            vec![held(&judged)]
+            vec![held(&judged, &source.compiled.names)]
         }
         Verdict::Refused(fault) => refused(source, fault),
     };
@@ -55,9 +56,9 @@ fn table(sifted: &Sifted, fault: &Fault) -> Vec<String> {
 }
 
 /// The plan as the box holds it.
-fn held(judged: &Judged) -> Vec<String> {
+fn held(judged: &Judged, names: &Names) -> Vec<String> {
     let plan = Plan::of(&judged.held);
-    let mut lines = network(&plan);
+    let mut lines = network(&plan, names);
     lines.push(String::new());
     lines.extend(grid(&plan));
     lines.extend(never_permitted(&plan));

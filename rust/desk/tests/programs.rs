@@ -215,8 +215,8 @@ fn words_that_do_not_go_together() {
         ),
         (
             &[&["--times", "x", "0", "0", "0", "0", "-1"]],
-            "'x' is no number; right is a number in decimal digits, 0 to 65535; \
-             '-1' is no number; right is a number in decimal digits, 0 to 4294967295",
+            "'x' is no number; right is a number in decimal digits, 2 to 400; \
+             '-1' is no number; right is a number in decimal digits, 0 to 1000000",
         ),
     ] {
         let said = format!("spwd-sheet: {said}; see spwd-sheet --help\n");

@@ -23,7 +23,7 @@ spwd-compile --hex FILE        the same in one line of lowercase hex, as `load` 
 spwd-compile --canonical FILE  the plan in the order in which a box writes it out, whose first 16 digits of
                                sha256sum are its fingerprint; FILE may be a plan file here. Also with --hex
 spwd-compile --force FILE      also a plan that the box refuses, in the order of the text. Also with --hex
-spwd-compile --text FILE       a plan file, or any bytes, to text that compiles to the same bytes
+spwd-compile --text FILE       a plan file, or any bytes, to text that compiles to the same bytes; names are lost
 spwd-compile --help            this, as -h; --version says which one this is
 
 FILE may be - for standard input.
@@ -39,6 +39,7 @@ The text form has one item a line, and # starts a comment:
                                may go without them
     reply I T L..              the reply's way from target T back to initiator I over the links L; without one it
                                goes back over the links of the path
+    name N WORDS               device N is called so in shows and pages; no part of the file, and may stand anywhere
     bytes HH..                 bytes as they are, in hex
 The items stand in this order: devices, links, paths, entries, intervals, times, replies.
 
