@@ -316,7 +316,8 @@ fn form_of(first: &str, words: usize) -> Result<&'static Form, Vec<String>> {
     let Some(form) = FORMS.iter().find(|form| form.word == first) else {
         let names: Vec<_> = FORMS.iter().map(|form| form.word).collect();
         return Err(vec![format!(
-            "'{first}' begins no item; an item begins with one of: {}",
+            "'{}' begins no item; an item begins with one of: {}",
+            shortened(first, 60),
             names.join(", ")
         )]);
     };
@@ -407,10 +408,11 @@ pub fn number(word: &str, most: u32) -> Result<u32, String> {
 }
 
 /// A number that there is room for; where there is none, what would be right.
-fn value(word: &str, least: u32, most: u32, room: u32) -> Result<u32, String> {
+pub fn value(word: &str, least: u32, most: u32, room: u32) -> Result<u32, String> {
+    let name = shortened(word, 60);
     if !word.bytes().all(|digit| digit.is_ascii_digit()) {
         return Err(format!(
-            "'{word}' is no number; right is a number in decimal digits, {least} to {most}"
+            "'{name}' is no number; right is a number in decimal digits, {least} to {most}"
         ));
     }
     let digits = word.trim_start_matches('0');
@@ -421,7 +423,7 @@ fn value(word: &str, least: u32, most: u32, room: u32) -> Result<u32, String> {
     } {
         Ok(number) if number <= room => Ok(number),
         _ => Err(format!(
-            "{word} is too great; right is a number from {least} to {most}"
+            "{name} is too great; right is a number from {least} to {most}"
         )),
     }
 }
@@ -431,7 +433,8 @@ fn hex(word: &str) -> Result<u8, String> {
     match u8::from_str_radix(word, 16) {
         Ok(byte) if digits => Ok(byte),
         _ => Err(format!(
-            "'{word}' is no byte; right are two hex digits, 00 to ff"
+            "'{}' is no byte; right are two hex digits, 00 to ff",
+            shortened(word, 60)
         )),
     }
 }

@@ -1,22 +1,27 @@
-//! A script played on the box, and what happens in words.
+//! A script played on the box.
 
-use crate::judge;
+use crate::happening::{Blank, Happening, Holds, Joined, Load, Refused, Wrong};
+use crate::judge::{held, judge};
 use crate::layout::{printable, shortened};
-use crate::script::{line_of, Command, Line};
-use crate::sheet::Asked;
-use crate::turns::{when, Question, Wanted};
+use crate::names::Names;
+use crate::plan_file::plan_file;
+use crate::script::Command;
+use crate::streams::Status;
+use crate::told::told;
+use crate::turns::{Question, Wanted};
+use crate::typed::{typed, Typed, Use};
 use crate::waiting::Waiting;
-use crate::words::{self, Advice, Row};
-use spwd::{records, Record, Refusal, Spwd, Verdict, Watchdog};
+use spwd::{records, Plan, Refusal, Spwd, Verdict, Watchdog};
 
-/// A box and the line that its panel shows next.
+/// A box and the line that its panel plays next.
 pub struct Panel {
     desk: Spwd,
     waiting: Waiting,
     /// Whether the card's row follows what asks for something.
     card: bool,
     line: u64,
-    wrong: u64,
+    wrong: bool,
+    refused: bool,
 }
 
 impl Panel {
@@ -27,35 +32,68 @@ impl Panel {
             waiting: Waiting::default(),
             card,
             line: 0,
-            wrong: 0,
+            wrong: false,
+            refused: false,
         }
     }
 
-    /// How many lines were no command.
-    pub fn wrong(&self) -> u64 {
-        self.wrong
+    /// A line that is no command comes before a load that was refused. Refusals of events are answers.
+    pub fn status(&self) -> Status {
+        match (self.wrong, self.refused) {
+            (true, _) => Status::Complaints,
+            (_, true) => Status::Refused,
+            _ => Status::Done,
+        }
     }
 
-    /// What the next line of the script makes happen; nothing for a line that is skipped.
+    /// What the next line of the script makes happen, in words; nothing for a line that is skipped.
     pub fn play(&mut self, line: &[u8]) -> Vec<String> {
-        self.line += 1;
-        match line_of(line) {
-            Line::Skip => Vec::new(),
-            Line::Command(command) => self.command(command),
-            Line::NoCommand => {
-                self.wrong += 1;
-                let text = shortened(&printable(line), 60);
-                vec![format!("line {}: not a command: {text}", self.line)]
-            }
-        }
+        let happening = self.happen(line);
+        happening.map_or(Vec::new(), |happening| told(&happening, self.card))
     }
 
-    fn command(&mut self, command: Command) -> Vec<String> {
+    /// The same as it is.
+    pub fn happen(&mut self, line: &[u8]) -> Option<Happening> {
+        self.line += 1;
+        // Some editors put a byte order mark in front of the first.
+        let mark = "\u{feff}".as_bytes();
+        let line = match line.strip_prefix(mark) {
+            Some(behind) if self.line == 1 => behind,
+            _ => line,
+        };
+        Some(match typed(line) {
+            Typed::Skip => return None,
+            Typed::Command(command) => self.command(command),
+            Typed::File(purpose, name) => match plan_file(&name) {
+                Ok(source) => {
+                    let (bytes, names) = (source.compiled.bytes, source.compiled.names);
+                    match purpose {
+                        Use::Load => self.load(&bytes, names, Some(name)),
+                        Use::Holds => self.holds(&bytes),
+                    }
+                }
+                Err(why) => self.wrong("not done", line, why),
+            },
+            Typed::Wrong(why) => self.wrong("not a command", line, why),
+        })
+    }
+
+    fn wrong(&mut self, what: &'static str, line: &[u8], why: Vec<String>) -> Happening {
+        self.wrong = true;
+        Happening::Wrong(Wrong {
+            line: self.line,
+            what,
+            text: shortened(&printable(line.trim_ascii()), 60),
+            why,
+        })
+    }
+
+    fn command(&mut self, command: Command) -> Happening {
         match command {
-            Command::Load(file) => self.load(&file),
+            Command::Load(file) => self.load(&file, Names::default(), None),
             Command::Clear => {
                 self.desk.clear();
-                vec!["clear: there is no plan in the box".to_string()]
+                Happening::Clear
             }
             Command::TimeCode { byte, clock, room } => self.time_code(byte, clock, room),
             Command::Request {
@@ -63,185 +101,128 @@ impl Panel {
                 target,
                 kind,
                 length,
-            } => self.request(initiator, target, kind, length),
+            } => self.request(
+                Wanted {
+                    initiator,
+                    target,
+                    length,
+                },
+                kind,
+            ),
             Command::Reply {
                 initiator,
                 transaction,
                 status,
-            } => self.reply(initiator, transaction, status),
-            Command::Reading { clock } => self.reading(clock),
-            Command::Out { room } => self.write_out(room),
-            Command::Watchdog => vec![five("watchdog", &self.desk.watchdog())],
-            Command::SetWatchdog([last, seen, reported, least, greatest]) => {
-                self.desk.set_watchdog(Watchdog {
-                    last,
-                    seen,
-                    reported,
-                    least,
-                    greatest,
-                });
-                vec![five("watchdog set", &self.desk.watchdog())]
+            } => Happening::Reply {
+                initiator,
+                transaction,
+                answer: self.desk.reply(initiator, transaction, status),
+            },
+            Command::Reading { clock } => Happening::Reading {
+                clock,
+                answer: self.desk.reading(clock),
+            },
+            Command::Out { room } => Happening::Out(self.desk.write_out(&mut vec![0; room])),
+            Command::Watchdog => Happening::Watchdog(self.desk.watchdog()),
+            Command::SetWatchdog(five) => {
+                self.desk.set_watchdog(Watchdog::from(five));
+                Happening::SetWatchdog(self.desk.watchdog())
             }
-            Command::Sheet { asked, length } => vec![time(&asked, length)],
-            Command::Next(question) => self.next(&question),
+            Command::Sheet { asked, length } => Happening::Sheet { asked, length },
+            Command::Next(question) => self.next(question),
+            Command::Blank => Happening::Blank(self.blank()),
+            Command::Holds(file) => self.holds(&file),
         }
     }
 
-    fn load(&mut self, file: &[u8]) -> Vec<String> {
+    fn load(&mut self, file: &[u8], names: Names, from: Option<String>) -> Happening {
         let verdict = Verdict::from(self.desk.load(file));
         self.waiting = Waiting::default();
-        let row = words::verdict(verdict.number());
-        let place = judge::place(&verdict).map_or(String::new(), |place| format!(" ({place})"));
-        let none = if verdict.is_accepted() {
-            ""
-        } else {
-            "; there is no plan in the box"
-        };
-        let mut lines = vec![format!("load: {verdict}: {}{place}{none}", row.means)];
-        lines.extend(self.to_do(&row));
-        lines
+        self.refused |= !verdict.is_accepted();
+        Happening::Load(Load {
+            verdict,
+            held: held(&self.desk),
+            names,
+            file: from,
+        })
     }
 
-    fn time_code(&mut self, byte: u8, clock: u32, room: usize) -> Vec<String> {
+    fn time_code(&mut self, byte: u8, clock: u32, room: usize) -> Happening {
         let mut buffer = vec![0; room];
-        let count = match self.desk.time_code(byte, clock, &mut buffer) {
-            Err(refusal) => return self.refused(&format!("time-code {byte}"), refusal),
-            Ok(count) => count,
-        };
-        let slot = byte % 64;
-        self.waiting.time_code(slot, records(&buffer, count));
-        if count == 0 {
-            return vec![format!("slot {slot}: nothing to report")];
+        let count = self.desk.time_code(byte, clock, &mut buffer);
+        if let Ok(count) = count {
+            let slot = byte % 64;
+            self.waiting.time_code(slot, records(&buffer, count));
         }
-        let mut lines = Vec::new();
-        for record in records(&buffer, count) {
-            lines.push(format!(
-                "slot {}: {}",
-                record.value,
-                words::record_on_panel(&record)
-            ));
-            if record.kind != Record::STARTED {
-                lines.extend(self.kind(record.kind));
-            }
+        Happening::TimeCode {
+            byte,
+            clock,
+            answer: count.map(|count| records(&buffer, count).collect()),
         }
-        lines
     }
 
-    fn request(&mut self, initiator: u8, target: u8, kind: u8, length: u16) -> Vec<String> {
-        let what = format!("{}, {}", words::request_kind(kind), words::bytes(length));
-        let wanted = Wanted {
+    fn request(&mut self, wanted: Wanted, kind: u8) -> Happening {
+        let Wanted {
             initiator,
             target,
             length,
+        } = wanted;
+        let answer = match self.desk.request(initiator, target, kind, length) {
+            Ok(transaction) => Ok(Joined {
+                transaction,
+                start: self.start(&wanted),
+            }),
+            Err(refusal) => Err(self.refused(&wanted, refusal)),
         };
-        match self.desk.request(initiator, target, kind, length) {
-            Ok(transaction) => {
-                let start = self.start(&wanted).unwrap_or_default();
-                vec![format!(
-                    "request: initiator {initiator} number {transaction} to target {target}, {what}: waiting{start}"
-                )]
-            }
-            Err(refusal) => {
-                let what = format!("request: initiator {initiator} to target {target}, {what}");
-                self.refused_wanted(&what, refusal, &wanted)
-            }
+        Happening::Request {
+            wanted,
+            kind,
+            answer,
         }
     }
 
     /// Where a request starts that was just accepted; nothing where that is not known.
-    fn start(&mut self, wanted: &Wanted) -> Option<String> {
+    fn start(&mut self, wanted: &Wanted) -> Option<(u8, u8)> {
         let slot = self.waiting.request(wanted.initiator)?;
-        let when = when(slot, wanted.next(&self.desk, slot).ok()?);
-        Some(format!(
-            "; starts {when}, if all time-codes are in sequence"
-        ))
+        let count = wanted.next(&self.desk, slot).ok()?;
+        Some((slot, count))
     }
 
-    fn next(&self, question: &Question) -> Vec<String> {
-        match question.answer(&self.desk) {
-            Ok(lines) => lines,
-            Err(refusal) => self.refused_wanted(&question.to_string(), refusal, &question.wanted),
+    fn refused(&self, wanted: &Wanted, refusal: Refusal) -> Refused {
+        let why = wanted.why(refusal, &self.desk);
+        Refused { refusal, why }
+    }
+
+    fn next(&self, question: Question) -> Happening {
+        let answer = question.answer(&self.desk);
+        Happening::Next {
+            question,
+            answer: answer.map_err(|refusal| self.refused(&question.wanted, refusal)),
         }
     }
 
-    fn refused_wanted(&self, what: &str, refusal: Refusal, wanted: &Wanted) -> Vec<String> {
-        let mut lines = wanted.refused(what, refusal, &self.desk);
-        lines.extend(self.to_do(&words::refusal(refusal.number())));
-        lines
-    }
-
-    fn reply(&mut self, initiator: u8, transaction: u16, status: u8) -> Vec<String> {
-        match self.desk.reply(initiator, transaction, status) {
-            Ok(ended) => {
-                let which = words::transaction(transaction, ended.target, ended.length);
-                let (status, class) = (ended.status, words::class(ended.status_class));
-                vec![format!(
-                    "reply: initiator {initiator} {which}: ended, status {status} ({class})"
-                )]
-            }
-            Err(refusal) => self.refused(
-                &format!("reply: initiator {initiator} number {transaction}"),
-                refusal,
-            ),
+    fn blank(&self) -> Blank {
+        if self.desk.is_blank() {
+            return Blank::Yes;
+        }
+        Blank::No {
+            held: held(&self.desk),
+            five: self.desk.watchdog(),
         }
     }
 
-    fn reading(&mut self, clock: u32) -> Vec<String> {
-        match self.desk.reading(clock) {
-            Ok(true) => vec![format!("clock {clock}: the next time-code is late")],
-            Ok(false) => vec![format!("clock {clock}: nothing to report")],
-            Err(refusal) => self.refused(&format!("clock {clock}"), refusal),
-        }
+    /// The file's own verdict is asked of another box.
+    fn holds(&self, file: &[u8]) -> Happening {
+        let own = held(&self.desk);
+        let judged = judge(file);
+        Happening::Holds(if self.desk.holds(file, &mut Plan::new()) {
+            Holds::Yes(own)
+        } else if !judged.verdict.is_accepted() {
+            Holds::Refused(judged.verdict)
+        } else if own.is_empty() {
+            Holds::NoPlan
+        } else {
+            Holds::Other([own, judged.held])
+        })
     }
-
-    fn write_out(&mut self, room: usize) -> Vec<String> {
-        match self.desk.write_out(&mut vec![0; room]) {
-            Ok(size) => vec![format!("the plan written out: {size} bytes")],
-            Err(refusal) => self.refused("writing out", refusal),
-        }
-    }
-
-    fn refused(&self, what: &str, refusal: Refusal) -> Vec<String> {
-        let mut lines = vec![words::refused(what, refusal)];
-        lines.extend(self.to_do(&words::refusal(refusal.number())));
-        lines
-    }
-
-    /// What to do, if the card was asked for.
-    fn to_do(&self, row: &Row) -> Option<String> {
-        self.card.then(|| row.advice())
-    }
-
-    /// What a record's kind says, if the card was asked for.
-    fn kind(&self, kind: u8) -> Vec<String> {
-        let row = words::record(kind);
-        let says = self.card.then(|| format!("    kind {kind}: {}", row.means));
-        says.into_iter().chain(self.to_do(&row)).collect()
-    }
-}
-
-/// A sheet by itself: its total, or what is out of range.
-fn time(asked: &Asked, length: u16) -> String {
-    let (routers, rate) = (words::routers(asked.routers), asked.rate);
-    let what = format!("sheet: {routers}, {rate} Mbit/s, {}", words::bytes(length));
-    match asked.sheet(length) {
-        Ok(sheet) => format!("{what}: {} ns", sheet.total),
-        Err(refusal) => {
-            let why = asked.out_of_range(&[length]).join("; ");
-            format!("{what}: {refusal}: {why}")
-        }
-    }
-}
-
-/// The five numbers; of seen and reported 0 is no and everything else is yes.
-fn five(name: &str, watchdog: &Watchdog) -> String {
-    let yes = |number: u32| if number == 0 { "no" } else { "yes" };
-    let (seen, reported) = (yes(watchdog.seen), yes(watchdog.reported));
-    let Watchdog {
-        last,
-        least,
-        greatest,
-        ..
-    } = watchdog;
-    format!("{name}: last clock {last}, seen {seen}, reported {reported}, least {least}, greatest {greatest}")
 }

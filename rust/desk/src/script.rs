@@ -40,6 +40,9 @@ pub enum Command {
     },
     /// After one slot.
     Next(Question),
+    Blank,
+    /// A plan file.
+    Holds(Vec<u8>),
 }
 
 #[derive(Debug, PartialEq, Eq)]
@@ -113,6 +116,8 @@ fn command_of(line: &[u8]) -> Option<Command> {
             },
             slot: Some(byte(slot)?),
         })),
+        (b"blank", []) => Some(Command::Blank),
+        (b"holds", [word]) => bytes(word).map(Command::Holds),
         _ => None,
     }
 }

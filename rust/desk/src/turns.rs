@@ -27,11 +27,15 @@ impl Wanted {
     /// A refusal in words; where no entry permits this for the plan's times, with these.
     pub fn refused(&self, what: &str, refusal: Refusal, desk: &Spwd) -> Vec<String> {
         let mut lines = vec![words::refused(what, refusal)];
-        if refusal == Refusal::NOT_PERMITTED {
-            let why = over_time(&Plan::of(&held(desk)), self);
-            lines.extend(why.map(|why| format!("    {why}")));
-        }
+        let why = self.why(refusal, desk);
+        lines.extend(why.map(|why| format!("    {why}")));
         lines
+    }
+
+    /// The plan's times, where no entry permits this for them.
+    pub fn why(&self, refusal: Refusal, desk: &Spwd) -> Option<String> {
+        let times = refusal == Refusal::NOT_PERMITTED;
+        times.then(|| over_time(&Plan::of(&held(desk)), self))?
     }
 }
 

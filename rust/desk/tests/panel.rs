@@ -24,13 +24,13 @@ fn plays(words: &[&str], script: &str, stored: &str, status: i32) {
 /// The samples of document 01 about events.
 #[test]
 fn samples() {
-    plays(&[], "samples.txt", "panel/samples.txt", 0);
+    plays(&[], "samples.txt", "panel/samples.txt", 1);
 }
 
 /// Every command, refusal and record of an accepted plan.
 #[test]
 fn everything() {
-    plays(&[], "everything.txt", "panel/everything.txt", 0);
+    plays(&[], "everything.txt", "panel/everything.txt", 1);
 }
 
 /// A plan with slot times: requests that are refused for these, and others.
@@ -42,7 +42,7 @@ fn slot_times() {
 /// A plan with a reply that comes home another way: its routers decide on lengths.
 #[test]
 fn replies() {
-    plays(&[], "replies.txt", "panel/replies.txt", 0);
+    plays(&[], "replies.txt", "panel/replies.txt", 1);
 }
 
 /// Next turns, and where a request starts: said where it stands alone in its line and the slot is known, and else not.
@@ -57,7 +57,7 @@ fn with_the_card() {
         &["--card", "-"],
         "everything.txt",
         "panel/everything-card.txt",
-        0,
+        1,
     );
 }
 
@@ -118,7 +118,7 @@ fn a_very_long_line() {
         format!("clk {number}1\n#{number}\nclear\n").as_bytes(),
     );
     let said = format!(
-        "line 1: not a command: clk {}...\nclear: there is no plan in the box\n",
+        "line 1: not a command: clk {}...\n    this line is too long; right are at most 65535 bytes\nclear: there is no plan in the box\n",
         "0".repeat(56)
     );
     assert_eq!(ran.text(), said);
@@ -135,6 +135,19 @@ fn sizes_of_a_load() {
     );
     assert_eq!(line_of(load(16_401).as_bytes()), Line::NoCommand);
     assert_eq!(line_of(b"load -"), Line::Command(Command::Load(Vec::new())));
+    let holds = |size: usize| load(size).replace("load", "holds");
+    assert_eq!(
+        line_of(holds(16_400).as_bytes()),
+        Line::Command(Command::Holds(vec![0; 16_400]))
+    );
+    assert_eq!(line_of(holds(16_401).as_bytes()), Line::NoCommand);
+    assert_eq!(
+        line_of(b"holds -"),
+        Line::Command(Command::Holds(Vec::new()))
+    );
+    for line in ["blank 1", "blank ", "holds", "holds 0", "holds a b"] {
+        assert_eq!(line_of(line.as_bytes()), Line::NoCommand, "{line}");
+    }
 }
 
 /// The greatest number that each word may be, and one more.
@@ -258,6 +271,8 @@ fn numbers_in_their_places() {
     let question = Question { wanted, slot };
     assert_eq!(command("next 1 2 3 4"), Command::Next(question));
     assert_eq!(command("load 0fa0"), Command::Load(vec![0x0f, 0xa0]));
+    assert_eq!(command("holds 0fa0"), Command::Holds(vec![0x0f, 0xa0]));
+    assert_eq!(command("blank"), Command::Blank);
     assert_eq!(command("wd"), Command::Watchdog);
     assert_eq!(command("clear"), Command::Clear);
 }

@@ -17,8 +17,9 @@ spwd-panel --help            this, as -h; --version says which one this is
 Without FILE, or with -, standard input is read. --card adds the row of the card to every verdict and
 refusal, and to every record that asks for something.
 
-One command a line, words separated by one space, numbers decimal:
+One command a line, numbers decimal:
     load HEX                                     a plan file, in lowercase hex; - for the empty file
+    load FILE                                    the same from a plan file, or from the text of a plan
     clear
     tc BYTE CLOCK BUF                            a time-code, with a record buffer of BUF bytes (0 to 4,096)
     req INITIATOR TARGET KIND LENGTH             a request; kind 0 read, 1 write
@@ -30,11 +31,16 @@ One command a line, words separated by one space, numbers decimal:
     sheet ROUTERS RATE LENGTH A D F G            the time of a transaction; no plan is asked
     sheet2 ROUTERS BACK RATE LENGTH A D F G      the same, with so many routers on the reply's way
     next INITIATOR TARGET LENGTH SLOT            the next turn of such a request after a slot, by the plan alone
-An empty line and one that begins with # are skipped. A line that is none of these changes nothing.
+    blank                                        whether every number of the box is that of a clear
+    holds HEX, holds FILE                        whether the box holds the plan of this file
+An empty line and one that begins with # are skipped. A line that is none of these, or whose file cannot be
+read or is no text of a plan, changes nothing; what would be right is said. What is all hex digits is hex: a
+file of such a name is ./NAME.
 Of a request that waits alone in its line it is said where it starts, once a time-code has said the slot.
 
-Status: 0 every line was a command or skipped, 2 some were not, 3 wrong arguments, or a file that cannot be
-read. Refusals are answers of the box and no failure, nor is a reader that closes the pipe early.
+Status: 0 every line was a command or skipped, and every load accepted; 1 a load was refused; 2 some lines
+were no command, or their file could not be had; 3 wrong arguments, or a script that cannot be read. Refusals
+of events are answers of the box and no failure, nor is a reader that closes the pipe early.
 ";
 
 /// Output that is gathered before it is written, while more input is at hand.
@@ -72,12 +78,7 @@ fn play(card: bool, script: &Input) -> Result<Status, String> {
             break;
         }
     }
-    let wrong = panel.wrong() > 0;
-    Ok(if wrong {
-        Status::Complaints
-    } else {
-        Status::Done
-    })
+    Ok(panel.status())
 }
 
 /// Writes what was said. False if the reader has closed the pipe.

@@ -1,0 +1,187 @@
+//! A line of a script as a person types it: blanks as they come, and a plan by the name of its file; or why it is no command.
+//!
+//! Which line is a command is for `script`, which is as strict as `replay`. Here it is given the line that was meant.
+
+use crate::form::value;
+use crate::layout::{printable, shortened};
+use crate::script::{line_of, Command, Line, BUFFER, FILE, LINE, ROOM};
+
+#[derive(Debug, PartialEq, Eq)]
+pub enum Typed {
+    /// An empty line, or one that begins with `#`.
+    Skip,
+    Command(Command),
+    /// A file by its name, and what it is for.
+    File(Use, String),
+    /// None of these: what is wrong, and what would be right.
+    Wrong(Vec<String>),
+}
+
+#[derive(Clone, Copy, Debug, PartialEq, Eq)]
+pub enum Use {
+    Load,
+    Holds,
+}
+
+pub fn typed(line: &[u8]) -> Typed {
+    let size = line.len();
+    let line = line.trim_ascii();
+    let words: Vec<_> = words_of(line).collect();
+    match words.first() {
+        None => Typed::Skip,
+        Some(word) if word.starts_with(b"#") => Typed::Skip,
+        Some(_) if size > LINE => {
+            let right = format!("this line is too long; right are at most {LINE} bytes");
+            Typed::Wrong(vec![right])
+        }
+        Some(word) => match (purpose(word), &words[1..]) {
+            (Some(purpose), plan) if is_file(plan) => file(purpose, &line[word.len()..]),
+            _ => command(&words),
+        },
+    }
+}
+
+fn words_of(line: &[u8]) -> impl Iterator<Item = &[u8]> {
+    let words = line.split(|byte| matches!(byte, b' ' | b'\t'));
+    words.filter(|word| !word.is_empty())
+}
+
+fn purpose(word: &[u8]) -> Option<Use> {
+    match word {
+        b"load" => Some(Use::Load),
+        b"holds" => Some(Use::Holds),
+        _ => None,
+    }
+}
+
+/// Whether words name a file: what is all hex digits is hex.
+fn is_file(words: &[&[u8]]) -> bool {
+    let hex = |word: &&[u8]| *word == b"-" || word.iter().all(u8::is_ascii_hexdigit);
+    !words.is_empty() && !words.iter().all(hex)
+}
+
+fn file(purpose: Use, name: &[u8]) -> Typed {
+    match std::str::from_utf8(name.trim_ascii()) {
+        Ok(name) => Typed::File(purpose, name.to_string()),
+        Err(_) => Typed::Wrong(vec!["the name of this file is no UTF-8".to_string()]),
+    }
+}
+
+fn command(words: &[&[u8]]) -> Typed {
+    match line_of(&words.join(&b' ')) {
+        Line::Skip => Typed::Skip,
+        Line::Command(command) => Typed::Command(command),
+        Line::NoCommand => {
+            let words: Vec<_> = words.iter().map(|word| printable(word)).collect();
+            let words: Vec<_> = words.iter().map(String::as_str).collect();
+            Typed::Wrong(why(&words))
+        }
+    }
+}
+
+/// A command: its name, the words that follow it, and the form as a person writes it.
+struct Form {
+    word: &'static str,
+    numbers: &'static [Number],
+    form: &'static str,
+}
+
+/// What a number may be for the box to take it, and the greatest that a script can say.
+#[derive(Clone, Copy)]
+struct Number {
+    least: u32,
+    most: u32,
+    room: u32,
+}
+
+const fn number(least: u32, most: u32, room: u32) -> Number {
+    Number { least, most, room }
+}
+
+/// A device or a slot.
+const SIXTY_FOUR: Number = number(0, 63, 255);
+const KIND: Number = number(0, 1, 255);
+const BYTE: Number = number(0, 255, 255);
+const ROUTERS: Number = number(0, 7, 255);
+const LENGTH: Number = number(0, 4_096, 65_535);
+const RATE: Number = number(2, 400, 65_535);
+const SHORT: Number = number(0, 65_535, 65_535);
+const LONG: Number = number(0, u32::MAX, u32::MAX);
+const LATENCY: Number = number(0, 1_000_000, u32::MAX);
+const RECORDS: Number = number(0, BUFFER as u32, BUFFER as u32);
+const WRITTEN: Number = number(0, ROOM as u32, ROOM as u32);
+
+const FORMS: [Form; 14] = [
+    form("load", &[], "load HEX (a plan file in lowercase hex, - for the empty one), or load FILE"),
+    form("clear", &[], "clear"),
+    form("tc", &[SIXTY_FOUR, LONG, RECORDS], "tc BYTE CLOCK BUF (a time-code, and the size of the record buffer)"),
+    form("req", &[SIXTY_FOUR, SIXTY_FOUR, KIND, LENGTH], "req I T K L (a request of initiator I to target T, kind K 0 read or 1 write, L data bytes)"),
+    form("rep", &[SIXTY_FOUR, SHORT, BYTE], "rep I NUM STATUS (a reply to transaction NUM of initiator I)"),
+    form("clk", &[LONG], "clk T (a clock reading)"),
+    form("out", &[WRITTEN], "out ROOM (the plan written out into ROOM bytes)"),
+    form("wd", &[], "wd"),
+    form("setwd", &[LONG; 5], "setwd LAST SEEN REPORTED LEAST GREATEST"),
+    form("sheet", &[ROUTERS, RATE, LENGTH, LATENCY, LATENCY, LATENCY, LATENCY], "sheet R S D A DD F G (R routers, S Mbit/s, D data bytes, latencies A DD F G in ns)"),
+    form("sheet2", &[ROUTERS, ROUTERS, RATE, LENGTH, LATENCY, LATENCY, LATENCY, LATENCY], "sheet2 RC RR S D A DD F G (RC routers on the command's way, RR on the reply's, then as for sheet)"),
+    form("next", &[SIXTY_FOUR, SIXTY_FOUR, LENGTH, SIXTY_FOUR], "next I T D SLOT (the next turn of initiator I to target T with D data bytes, after SLOT)"),
+    form("blank", &[], "blank"),
+    form("holds", &[], "holds HEX (a plan file in lowercase hex, - for the empty one), or holds FILE"),
+];
+
+const fn form(word: &'static str, numbers: &'static [Number], form: &'static str) -> Form {
+    Form {
+        word,
+        numbers,
+        form,
+    }
+}
+
+/// Why words are no command: the first of them, how many they are, or each that is wrong.
+fn why(words: &[&str]) -> Vec<String> {
+    let (first, rest) = words.split_first().unwrap_or((&"", &[]));
+    let Some(form) = FORMS.iter().find(|form| form.word == *first) else {
+        let names: Vec<_> = FORMS.iter().map(|form| form.word).collect();
+        let first = shortened(first, 60);
+        return vec![format!(
+            "'{first}' begins no command; a command begins with one of: {}",
+            names.join(", ")
+        )];
+    };
+    let takes_plan = purpose(form.word.as_bytes()).is_some();
+    let count = if takes_plan { 1 } else { form.numbers.len() };
+    let mut why = Vec::new();
+    if rest.len() != count {
+        let (word, found) = (form.word, rest.len());
+        why.push(format!(
+            "behind '{word}' stand {found} words and should stand {count}: {}",
+            form.form
+        ));
+    } else if takes_plan {
+        why.extend(rest.first().map(|word| no_hex(word)));
+    } else {
+        let wrong = rest
+            .iter()
+            .zip(form.numbers)
+            .filter_map(|(word, number)| value(word, number.least, number.most, number.room).err());
+        why.extend(wrong);
+    }
+    if rest.iter().any(|word| word.starts_with('#')) {
+        why.push("a comment has a line of its own, which begins with #".to_string());
+    }
+    why
+}
+
+/// Why hex digits are no bytes.
+fn no_hex(word: &str) -> String {
+    let (size, most, name) = (word.len(), 2 * FILE, shortened(word, 60));
+    let wrong = match size {
+        _ if size > most => {
+            return format!("these are {size} hex digits; right are at most {most}")
+        }
+        _ if size.is_multiple_of(2) => {
+            format!("'{name}' has digits of upper case; right are 0 to 9 and a to f")
+        }
+        _ => format!("'{name}' has {size} hex digits; right are two for each byte"),
+    };
+    format!("{wrong}; a file of this name is ./{name}")
+}
