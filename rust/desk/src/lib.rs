@@ -15,6 +15,7 @@ pub mod form;
 pub mod further;
 pub mod grid;
 pub mod happening;
+pub mod history;
 pub mod html;
 pub mod invisible;
 pub mod judge;

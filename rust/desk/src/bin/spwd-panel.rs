@@ -1,21 +1,36 @@
 //! The script that `replay` reads, played on the box: what happens, in words.
 #![forbid(unsafe_code)]
 
-use desk::arguments::{asked, version, Asked};
+use desk::arguments::{given, one_file, own, version, Given, Options};
+use desk::happening::Happening;
+use desk::history::gather::Gathered;
+use desk::history::page::page;
+use desk::html::head;
 use desk::panel::Panel;
 use desk::script::LINE;
-use desk::streams::{fail, output_is_open, put, read_line, Input, Status};
+use desk::streams::{fail, output_is_open, put, read_line, say, Input, Status};
+use desk::told::told;
+use std::ffi::OsString;
 use std::io::{self, BufReader, ErrorKind, Write};
 use std::process::ExitCode;
 
 const NAME: &str = "spwd-panel";
 
 const HELP: &str = "\
-spwd-panel [--card] [FILE]   plays a script on the box and says in words what happens
-spwd-panel --help            this, as -h; --version says which one this is
+spwd-panel [--card] [SCRIPT]   plays a script on the box and says in words what happens
+spwd-panel --page [SCRIPT]     the same drawn over time-codes, as a page to print: one HTML file
+spwd-panel --help              this, as -h; --version says which one this is
 
-Without FILE, or with -, standard input is read. --card adds the row of the card to every verdict and
+Without SCRIPT, or with -, standard input is read. --card adds the row of the card to every verdict and
 refusal, and to every record that asks for something.
+
+A page has a lane for each initiator, with the starts, replies and lateness of its transactions and the line of
+its requests; early, late and out of sequence time-codes; what was refused; and a section for each load and
+clear. It needs nothing else, no network and no script, and prints on A4. Of the run the first 2,000 time-codes
+are drawn and the rest is counted. Loads that are refused and lines that are no command are said on standard
+error too.
+    --title WORDS   in the place of the script's name
+    --date WORDS    a date, as you write it; without it the page has none
 
 One command a line, numbers decimal:
     load HEX                                     a plan file, in lowercase hex; - for the empty file
@@ -46,14 +61,70 @@ of events are answers of the box and no failure, nor is a reader that closes the
 /// Output that is gathered before it is written, while more input is at hand.
 const CHUNK: usize = 1 << 16;
 
+const OPTIONS: [(&str, usize); 4] = [("--card", 0), ("--page", 0), ("--title", 1), ("--date", 1)];
+
 fn main() -> ExitCode {
-    let status = match asked(std::env::args_os().skip(1), &["--card"]) {
-        Ok(Asked::Help) => put(HELP.as_bytes()).map(|()| Status::Done),
-        Ok(Asked::Version) => put(version(NAME).as_bytes()).map(|()| Status::Done),
-        Ok(Asked::Run { options, file }) => play(!options.is_empty(), &Input::of(file)),
-        Err(wrong) => Err(format!("{wrong}; see {NAME} --help")),
+    let status = match given(std::env::args_os().skip(1), &OPTIONS) {
+        Ok(Given::Help) => put(HELP.as_bytes()).map(|()| Status::Done),
+        Ok(Given::Version) => put(version(NAME).as_bytes()).map(|()| Status::Done),
+        Ok(Given::Words { options, others }) => run(&options, others),
+        Err(wrong) => Err(see(&wrong)),
     };
     status.unwrap_or_else(|what| fail(NAME, &what)).into()
+}
+
+fn see(wrong: &str) -> String {
+    format!("{wrong}; see {NAME} --help")
+}
+
+fn run(options: &Options, others: Vec<OsString>) -> Result<Status, String> {
+    let page = given_page(options).map_err(|wrong| see(&wrong))?;
+    let card = options.iter().any(|(option, _)| *option == "--card");
+    let script = Input::of(one_file(others).map_err(|wrong| see(&wrong))?);
+    match (page, card) {
+        (Some(_), true) => Err(see("--page and --card exclude each other")),
+        (Some(given), false) => draw(&given, &script),
+        (None, card) => play(card, &script),
+    }
+}
+
+/// The words of `--title` and `--date`, if a page is asked for.
+fn given_page(options: &Options) -> Result<Option<head::Given>, String> {
+    let word = |name| -> Result<Option<String>, String> {
+        let words = own(options, name)?.and_then(<[OsString]>::first);
+        Ok(words.map(|word| word.to_string_lossy().into_owned()))
+    };
+    let (title, date) = (word("--title")?, word("--date")?);
+    match own(options, "--page")? {
+        Some(_) => Ok(Some(head::Given { title, date })),
+        None if title.is_some() || date.is_some() => {
+            Err("--title and --date go with --page".to_string())
+        }
+        None => Ok(None),
+    }
+}
+
+/// Plays all of a script, and then writes its page.
+fn draw(given: &head::Given, script: &Input) -> Result<Status, String> {
+    output_is_open()?;
+    let mut panel = Panel::new(false);
+    let mut gathered = Gathered::new();
+    let mut input = BufReader::with_capacity(CHUNK, script.open()?);
+    let mut line = Vec::new();
+    while read_line(&mut input, &mut line, LINE).map_err(|error| script.failed(&error))? {
+        let Some(happening) = panel.happen(&line) else {
+            continue;
+        };
+        match &happening {
+            Happening::Wrong(_) => say(&told(&happening, false)),
+            Happening::Load(load) if !load.verdict.is_accepted() => say(&told(&happening, false)),
+            _ => {}
+        }
+        gathered.add(happening);
+    }
+    let page = page(&script.name(), &gathered.chart(), given);
+    put(page.as_bytes())?;
+    Ok(panel.status())
 }
 
 fn play(card: bool, script: &Input) -> Result<Status, String> {
