@@ -80,7 +80,7 @@ static inline const char *spwd_to_do(uint32_t number)
 {
     switch (number) {
     case 0:
-        return "compare the fingerprint with the team's own: two plans that differ in one slot share the four counts";
+        return "compare the fingerprint with the team's own, not the four counts";
     case 1:
         return "it is not a plan, or two files were joined; ask for the plan alone";
     case 2:

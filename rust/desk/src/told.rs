@@ -6,7 +6,7 @@ use crate::judge;
 use crate::plan::Plan;
 use crate::sheet::Asked;
 use crate::turns::{when, Wanted};
-use crate::words::{self, Row};
+use crate::words::{self, Advice, Row};
 use spwd::{Ended, Record, Refusal, Verdict, Watchdog};
 
 /// The lines of a happening. With the card, its row follows what asks for something.

@@ -8,7 +8,7 @@ pub static VERDICTS: [Row; 16] = [
         number: 0,
         about: "devices links paths entries",
         means: "the plan is in the box",
-        to_do: "compare the fingerprint with the team's own: two plans that differ in one slot share the four counts",
+        to_do: "compare the fingerprint with the team's own, not the four counts",
     },
     Row {
         number: 1,
