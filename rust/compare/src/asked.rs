@@ -24,10 +24,10 @@ impl Asked {
     pub const ALL: [(Self, &'static str); 7] = [
         (Self::Loaded, "the loaded file"),
         (Self::Canonical, "its plan written out"),
-        (Self::Reordered, "it in another order"),
-        (Self::Moved, "it with one entry at another slot"),
-        (Self::Changed, "it with one field changed"),
-        (Self::Damaged, "it damaged"),
+        (Self::Reordered, "another order of it"),
+        (Self::Moved, "one entry of it at another slot"),
+        (Self::Changed, "one field of it changed"),
+        (Self::Damaged, "a damaged one"),
         (Self::Other, "another file"),
     ];
 

@@ -80,17 +80,17 @@ impl CounterTally {
 
     pub fn missing(&self) -> Vec<String> {
         let mut missing = Vec::new();
-        let mut want = |before: &str, counts: &[(&str, u64)], after: &str| {
+        let mut want = |before: &str, counts: &[(&str, u64)]| {
             let never = counts.iter().filter(|(_, count)| *count == 0);
-            missing.extend(never.map(|(name, _)| format!("{before} {name}{after}")));
+            missing.extend(never.map(|(name, _)| format!("{before} {name} was not reached")));
         };
-        want("no box was blank", &self.blanks(true), "");
-        want("every box was blank", &self.blanks(false), "");
+        want("blank", &self.blanks(true));
+        want("not blank", &self.blanks(false));
+        want("a plan held with", &self.meanwhile());
         for (file, counts) in self.wanted() {
-            want(&format!("no answer on {file} was"), &counts, "");
+            want(&format!("holds, {file},"), &counts);
         }
-        want("no plan was held with", &self.meanwhile(), "");
-        want("no other plan differed in", &self.differing(), " alone");
+        want("another plan, alone for", &self.differing());
         missing
     }
 }
@@ -104,7 +104,7 @@ impl fmt::Display for CounterTally {
             writeln!(formatter, "  {file}: {}", list(&counts))?;
         }
         let differing = list(&self.differing());
-        writeln!(formatter, "  another plan for {differing} alone")
+        writeln!(formatter, "  another plan, alone for {differing}")
     }
 }
 
