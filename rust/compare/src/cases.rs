@@ -60,7 +60,7 @@ impl<'a> Case<'a> {
         }
     }
 
-    /// A file, damaged or not, then a few events, a clear, a few more.
+    /// A file, damaged or not, then a few events, a clear, one more, and five numbers lent.
     pub fn file(mut self) -> Result<(), Box<Failure>> {
         let outcome = self.file_and_some();
         self.told(outcome)
@@ -117,6 +117,7 @@ impl<'a> Case<'a> {
         if self.random.chance(100) {
             self.clear()?;
             self.step()?;
+            self.lend()?;
         }
         Ok(())
     }

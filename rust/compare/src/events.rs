@@ -235,9 +235,10 @@ fn clock(five: Watchdog, random: &mut Random) -> u32 {
 /// Five numbers that a caller may lend: all 0, all but one, or any.
 pub fn five(random: &mut Random) -> [u32; 5] {
     const EDGES: [u32; 8] = [0, 1, 2, 90, 110, 0x7fff_ffff, 0x8000_0000, u32::MAX];
-    let any: [u32; 5] = std::array::from_fn(|_| match random.chance(800) {
-        true => random.pick(&EDGES),
-        false => random.word(),
+    let any: [u32; 5] = std::array::from_fn(|_| match random.below(10) {
+        0 => random.word(),
+        1 | 2 => 1 << random.below(32),
+        _ => random.pick(&EDGES),
     });
     let mut five = [0; 5];
     match random.below(6) {

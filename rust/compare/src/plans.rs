@@ -137,6 +137,16 @@ fn network_fields(network: &Network) -> Vec<Vec<u8>> {
     nodes.chain(routers).chain(links).collect()
 }
 
+/// Now and then devices that no link joins to another.
+fn alone(network: &Network, random: &mut Random) -> Vec<Vec<u8>> {
+    let has = |number: &u8| network.nodes.contains(number) || network.routers.contains(number);
+    let mut free: Vec<u8> = (0..64).filter(|number| !has(number)).collect();
+    random.shuffle(&mut free);
+    free.truncate(random.pick(&[0, 0, 1, 3]));
+    let device = |&number: &u8| field(1, &[number, number % 2]);
+    free.iter().map(device).collect()
+}
+
 struct Path {
     initiator: u8,
     target: u8,
@@ -179,6 +189,7 @@ enum Care {
 fn with_entries(random: &mut Random, care: Care) -> Vec<u8> {
     let (network, paths) = network_and_paths(random);
     let mut fields = network_fields(&network);
+    fields.extend(alone(&network, random));
     fields.extend(paths.iter().flat_map(Path::fields));
     fields.extend(entries(&paths, care, random));
     fields.push(intervals_field(random));
