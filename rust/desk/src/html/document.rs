@@ -1,10 +1,18 @@
 //! A whole page: its head with the style, the patterns of the initiators, and what is inside.
 
 use crate::html::element::{element, words, Element};
-use crate::html::style::{patterns, SHEET};
+use crate::html::style::{patterns, FOOT, SHEET};
 
 /// The text of a page, to the last newline.
 pub fn document(title: &str, inside: impl IntoIterator<Item = Element>) -> String {
+    with_foot(title, "", inside)
+}
+
+/// The same, with words at the foot of every sheet of paper: letters, digits and spaces.
+pub fn with_foot(title: &str, foot: &str, inside: impl IntoIterator<Item = Element>) -> String {
+    let plain = |letter: &char| letter.is_ascii_alphanumeric() || *letter == ' ';
+    let foot: String = foot.chars().filter(plain).collect();
+    let foot = format!("@page {{ @bottom-left {{ content: '{foot}'; {FOOT} }} }}\n");
     let head = element("head")
         .add(element("meta").with("charset", "utf-8"))
         .add(
@@ -13,7 +21,7 @@ pub fn document(title: &str, inside: impl IntoIterator<Item = Element>) -> Strin
                 .with("content", "width=device-width"),
         )
         .add(words("title", title))
-        .add(element("style").style(SHEET));
+        .add(element("style").style(SHEET).style(&foot));
     let body = element("body").add(patterns()).add_all(inside);
     let html = element("html").with("lang", "en").add(head).add(body);
     format!("<!DOCTYPE html>\n{html}\n")

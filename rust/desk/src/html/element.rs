@@ -15,7 +15,7 @@ pub struct Element {
 #[derive(Clone, Debug)]
 enum Part {
     Text(String),
-    Style(&'static str),
+    Style(String),
     Element(Element),
 }
 
@@ -60,9 +60,9 @@ impl Element {
         self
     }
 
-    /// With the words of a style sheet, which HTML takes as they are: they have no `<` and no `&`.
-    pub fn style(mut self, sheet: &'static str) -> Self {
-        self.inside.push(Part::Style(sheet));
+    /// With the words of a style sheet. HTML takes them as they are and XML does not, so those that tell are left out.
+    pub fn style(mut self, sheet: &str) -> Self {
+        self.inside.push(Part::Style(sheet.replace(['<', '&'], "")));
         self
     }
 }

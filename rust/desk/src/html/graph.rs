@@ -136,7 +136,11 @@ fn distances(plan: &Plan, links: &[Link]) -> BTreeMap<u8, usize> {
             let on = |from: u8, to: u8| reached(&from).then_some(to);
             [on(one, other), on(other, one)].into_iter().flatten()
         });
-        for device in next.collect::<Vec<_>>() {
+        let next: Vec<u8> = next.collect();
+        if next.is_empty() {
+            break;
+        }
+        for device in next {
             distances.entry(device).or_insert(distance);
         }
     }

@@ -2,7 +2,8 @@
 //! as far as it can be read, with what is at fault marked wherever it is drawn.
 
 use crate::fields::fields;
-use crate::html::document::document;
+use crate::fingerprint::fingerprint;
+use crate::html::document::with_foot;
 use crate::html::element::{words, Element};
 use crate::html::head::{head, Given};
 use crate::html::marks::Marks;
@@ -29,8 +30,16 @@ pub fn page(source: &Source, given: &Given) -> (String, bool) {
     inside.push(paths(&plan, &marks));
     inside.extend(times(&plan, &marks));
     inside.extend(asked(&plan, &judged));
-    let text = document(given.title(source), inside);
+    let text = with_foot(given.title(source), &foot(&judged), inside);
     (text, judged.verdict.is_accepted())
+}
+
+/// Which plan a sheet of paper belongs to.
+fn foot(judged: &Judged) -> String {
+    match judged.verdict {
+        Verdict::Accepted(_) => format!("fingerprint {}", fingerprint(&judged.held)),
+        Verdict::Refused(_) => judged.verdict.to_string(),
+    }
 }
 
 /// Turns are for the box to say, and it holds a plan that it accepted.

@@ -51,14 +51,14 @@ pub fn patterns() -> Element {
             (DOTTED, _) => pattern.add(
                 circle(4.0, 4.0, 1.3)
                     .with("fill", dark)
-                    .with("fill-opacity", "0.4"),
+                    .with("fill-opacity", "0.6"),
             ),
             (_, "") => pattern,
             _ => pattern.add(
                 drawn(lines)
                     .with("fill", "none")
                     .with("stroke", dark)
-                    .with("stroke-opacity", "0.35"),
+                    .with("stroke-opacity", "0.5"),
             ),
         }
     });
@@ -70,6 +70,9 @@ pub fn patterns() -> Element {
         .with("aria-hidden", "true")
         .add(defs)
 }
+
+/// The letters at the foot of a sheet of paper.
+pub const FOOT: &str = "font: 8pt Arial, 'Liberation Sans', Helvetica, sans-serif;";
 
 /// The style sheet. It has no `<` and no `&`, which HTML would take as they are and XML would not.
 pub const SHEET: &str = "
@@ -95,6 +98,7 @@ th.number, td.number { text-align: right; font-variant-numeric: tabular-nums; wh
 .rest { width: 55%; }
 .two { columns: 2; column-gap: 8mm; }
 .two table { width: 100%; }
+.two .mono { white-space: nowrap; }
 tr, svg, pre, .whole { break-inside: avoid; }
 .facts { margin: 2mm 0; }
 .facts th { padding-left: 0; font-weight: normal; color: #333; white-space: nowrap; }

@@ -15,7 +15,7 @@ use crate::plan::Plan;
 use spwd::SLOTS;
 
 /// Units of the names of rows, of a slot, of the heading, and of a lane; what is free above and below a bar, and how far it is pointed.
-const NAME: f64 = 88.0;
+const NAME: f64 = 104.0;
 const SLOT: f64 = (PAPER - NAME) / BLOCK as f64;
 const HEAD: f64 = 17.0;
 const LANE: f64 = 22.0;
