@@ -2,9 +2,9 @@
 
 mod common;
 
-use common::pages::{all_plans, cells, drawn, of_text, sorted, source};
+use common::pages::{all_plans, cells, drawn, of_text, said, sorted, source};
 use common::xml::{page as read, Node};
-use common::{bytes, run, SHOW};
+use common::{bytes, expected, run, SHOW};
 use desk::fields::{fields, Entry};
 use desk::fingerprint::fingerprint;
 use desk::html::head::Given;
@@ -335,4 +335,21 @@ fn hostile_words() {
     assert_eq!(page.id("device-10").unwrap().text(), "10the router in the…");
     assert!(page.id("entry-2-1").unwrap().text().ends_with("20 camera"));
     assert!(page.id("entry-1-0").unwrap().text().ends_with("20, 21"));
+}
+
+/// Every word of some pages, but for the drawings.
+#[test]
+fn words() {
+    for name in [
+        "guide",
+        "guide-reply",
+        "times-never",
+        "reply-clash",
+        "sample-tag-6",
+        "no-entry",
+    ] {
+        let page = drawn(&source(&format!("plans/{name}.plan")));
+        let lines: String = said(&page).iter().map(|line| format!("{line}\n")).collect();
+        assert_eq!(lines, expected(&format!("page/{name}.txt")), "{name}");
+    }
 }

@@ -186,71 +186,75 @@ fn times_as_on_the_sheet() {
     assert!(rows > 100, "{rows}");
 }
 
-/// What an entry needs at most: the largest length on the sheet for its span, that of its targets which takes longest.
+/// The row with what an entry needs: the only one that names its initiator and its slot.
+fn need(page: &Node, entry: &Entry) -> Vec<String> {
+    let mut rows: Vec<_> = page.with("data-need").into_iter().map(cells).collect();
+    let slot = entry.slot.to_string();
+    rows.retain(|row| row[0] == entry.initiator.to_string());
+    rows.retain(|row| row[1].split(' ').any(|own| own == slot));
+    assert_eq!(rows.len(), 1);
+    rows.remove(0)
+}
+
+/// What the row should say of an entry's targets, with those that are never permitted if others are.
+fn targets(plan: &Plan, entry: &Entry) -> String {
+    let targets = entry.targets.iter().copied();
+    let never: Vec<u8> = targets
+        .filter(|&target| most(plan, entry, target).is_none())
+        .collect();
+    match never.len() {
+        0 => numbers(entry.targets),
+        all if all == entry.targets.len() => numbers(entry.targets),
+        _ => format!("{}; never {}", numbers(entry.targets), numbers(&never)),
+    }
+}
+
+/// The times of the largest lengths to an entry's targets, with target and length.
+fn longest(plan: &Plan, entry: &Entry) -> Vec<(u64, u64, u64)> {
+    let times = plan.times.unwrap();
+    let needs = entry.targets.iter().filter_map(|&target| {
+        let path = plan.path(entry.initiator, target)?;
+        let length = most(plan, entry, target)?;
+        let time = times.time(plan.routers(&path), length)?;
+        Some((time.into(), target.into(), length.into()))
+    });
+    needs.collect()
+}
+
+/// What an entry needs at most: the largest length on the sheet for its span, to the target where it takes longest.
 #[test]
 fn needs_as_on_the_sheet() {
     let (mut entries, mut nothing) = (0, 0);
-    for Shown {
-        text: name,
-        source,
-        page,
-    } in accepted()
-    {
+    for Shown { text, source, page } in accepted() {
         let held = judge(source.bytes()).held;
         let plan = Plan::of(&held);
         let Some(times) = plan.times else {
             continue;
         };
-        let largest = sheet(
-            &name,
-            "largest length in bytes, by path and span of the plan's entries",
-        );
-        let largest = largest.join(" ");
+        let largest = "largest length in bytes, by path and span of the plan's entries";
+        let largest = sheet(&text, largest).join(" ");
         for entry in &plan.entries {
-            let rows = page.with("data-need").into_iter().filter(|row| {
-                let said = cells(row);
-                let slots: Vec<_> = said[1].split(' ').map(String::from).collect();
-                said[0] == entry.initiator.to_string() && slots.contains(&entry.slot.to_string())
-            });
-            let rows: Vec<_> = rows.collect();
-            assert_eq!(rows.len(), 1, "{name}");
-            let said = cells(rows[0]);
-            assert_eq!(
-                (&said[2], &said[3]),
-                (&entry.span.to_string(), &numbers(entry.targets)),
-                "{name}"
-            );
-            let span = u64::from(entry.span) * u64::from(times.slot_length);
-            let needs = entry.targets.iter().filter_map(|&target| {
-                let path = plan.path(entry.initiator, target)?;
-                let length = most(&plan, entry, target)?;
-                Some((times.time(plan.routers(&path), length)?, target, length))
-            });
-            let needs: Vec<_> = needs.collect();
+            let said = need(&page, entry);
+            let needs = longest(&plan, entry);
+            assert_eq!(said[2], entry.span.to_string(), "{text}");
+            assert_eq!(said[3], targets(&plan, entry), "{text}");
             entries += 1;
             let Some(time) = needs.iter().map(|need| need.0).max() else {
-                assert_eq!(said[4], "never permitted: not even 0 bytes fit", "{name}");
+                assert_eq!(said[4], "never permitted: not even 0 bytes fit", "{text}");
                 nothing += 1;
                 continue;
             };
             let [length, target, ns, of, percent] =
                 [4, 5, 6, 7, 8].map(|cell| said[cell].parse::<u64>().unwrap());
-            assert!(
-                needs.contains(&(time, target as u8, length as u16)),
-                "{name}"
-            );
-            assert_eq!((ns, of), (time.into(), span), "{name}");
-            assert!(
-                100 * ns <= percent * of && 100 * ns > (percent - 1) * of,
-                "{name}"
-            );
-            let printed = format!("{} to {target}:", entry.initiator);
-            let (_, printed) = largest.split_once(&printed).unwrap();
+            assert!(needs.contains(&(time, target, length)), "{text}");
+            let span = u64::from(entry.span) * u64::from(times.slot_length);
+            assert_eq!((ns, of), (time, span), "{text}");
+            assert!(100 * ns <= percent * of && 100 * ns > (percent - 1) * of);
+            let path = format!("{} to {target}:", entry.initiator);
+            let (_, printed) = largest.split_once(&path).unwrap();
             let printed = printed.split(" to ").next().unwrap();
-            assert!(
-                printed.contains(&format!("span {}: {length}", entry.span)),
-                "{name}"
-            );
+            let length = format!("span {}: {length}", entry.span);
+            assert!(printed.contains(&length), "{text}");
         }
     }
     assert!(entries > 100 && nothing > 10, "{entries} {nothing}");

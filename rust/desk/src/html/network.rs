@@ -6,7 +6,7 @@ use crate::html::element::{words, Element};
 use crate::html::graph::{Edge, Graph};
 use crate::html::marks::Marks;
 use crate::html::place::{place, Placed, Spot, HALF, STUB};
-use crate::html::style::colour;
+use crate::html::style::{colour, initiators};
 use crate::html::svg::{drawn, fitted, group, rect, short, svg, text, width, PAPER};
 use crate::names::Names;
 use crate::plan::Plan;
@@ -18,6 +18,8 @@ const BELOW: f64 = 100.0;
 const LINE: f64 = 12.0;
 /// Around the drawing.
 const MARGIN: f64 = 6.0;
+/// How round a router is.
+const ROUND: f64 = 12.0;
 
 pub fn network(plan: &Plan, names: &Names, marks: &Marks) -> Element {
     let section = section("network", "Network");
@@ -106,40 +108,43 @@ fn drawn_device(
     spot: &Spot,
     beside: Beside,
 ) -> Element {
-    let initiators = plan.initiators();
-    let place = initiators.iter().position(|&initiator| initiator == device);
-    let kind = match plan.device(device).map(|device| device.kind) {
+    let kind = kind(plan, device);
+    let id = format!("device-{device}");
+    let drawn = group(&format!("device {kind}")).with("id", &id);
+    let fault = marks.devices.contains(&device);
+    let (drawn, number) = if fault {
+        let class = format!("device {kind} fault");
+        let marked = drawn.class(class).with("data-fault", id);
+        (marked, format!("! {device}"))
+    } else {
+        (drawn, device.to_string())
+    };
+    let name = names.get(device);
+    drawn
+        .with("data-device", device)
+        .add(shape(plan, device, kind, spot))
+        .add(text(spot.x, spot.y, number).class("strong halo"))
+        .add_all(name.map(|name| drawn_name(name, spot, beside)))
+}
+
+fn kind(plan: &Plan, device: u8) -> &'static str {
+    match plan.device(device).map(|device| device.kind) {
         Some(0) => "node",
         Some(1) => "router",
         Some(_) => "unknown",
         None => "missing",
-    };
-    let fault = marks.devices.contains(&device);
-    let mut class = format!("device {kind}");
-    if fault {
-        class += " fault";
     }
+}
+
+/// Square or round, and in its colour if it is an initiator.
+fn shape(plan: &Plan, device: u8, kind: &str, spot: &Spot) -> Element {
+    let initiators = initiators(plan);
+    let place = initiators.iter().position(|&initiator| initiator == device);
     let top = spot.y - spot.height / 2.0;
-    let corner = if kind == "router" { 12.0 } else { 0.0 };
-    let shape = rect(spot.x - HALF, top, 2.0 * HALF, spot.height)
-        .with("rx", short(f64::min(corner, spot.height / 2.0)))
-        .class(place.map_or("plain".to_string(), colour));
-    let mut drawn = group(&class)
-        .with("id", format!("device-{device}"))
-        .with("data-device", device);
-    if fault {
-        drawn = drawn.with("data-fault", format!("device-{device}"));
-    }
-    let number = if fault {
-        format!("! {device}")
-    } else {
-        device.to_string()
-    };
-    let name = names.get(device);
-    drawn
-        .add(shape)
-        .add(text(spot.x, spot.y, number).class("strong halo"))
-        .add_all(name.map(|name| drawn_name(name, spot, beside)))
+    let corner = if kind == "router" { ROUND } else { 0.0 };
+    rect(spot.x - HALF, top, 2.0 * HALF, spot.height)
+        .with("rx", short(corner.min(spot.height / 2.0)))
+        .class(place.map_or("plain".to_string(), colour))
 }
 
 fn drawn_name(name: &str, spot: &Spot, beside: Beside) -> Element {

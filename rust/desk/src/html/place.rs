@@ -132,27 +132,29 @@ fn levels(
     height: f64,
 ) -> Vec<f64> {
     let mut levels = vec![height / 2.0; needs.len()];
-    let count = graph.columns.len();
-    let there_and_back: Vec<usize> = (0..count).chain((0..count).rev()).collect();
-    for sweep in 0..SWEEPS {
-        for &column in &there_and_back {
-            let column = &graph.columns[column];
-            let wanted = column.iter().enumerate().map(|(place, &vertex)| {
-                if sweep == 0 {
-                    height * (place as f64 + 0.5) / column.len() as f64
-                } else {
-                    mean(&levels, &neighbours[vertex], levels[vertex])
-                }
-            });
-            let wanted: Vec<_> = wanted.collect();
-            let needs: Vec<_> = column
-                .iter()
-                .map(|&vertex| needs[vertex] + between)
-                .collect();
-            for (&vertex, level) in column.iter().zip(apart(&wanted, &needs, height)) {
-                levels[vertex] = level;
-            }
+    let mut settle = |column: &[usize], wanted: &dyn Fn(&[f64], usize, usize) -> f64| {
+        let places = column.iter().enumerate();
+        let wanted: Vec<_> = places
+            .map(|(place, &vertex)| wanted(&levels, place, vertex))
+            .collect();
+        let needs: Vec<_> = column
+            .iter()
+            .map(|&vertex| needs[vertex] + between)
+            .collect();
+        for (&vertex, level) in column.iter().zip(apart(&wanted, &needs, height)) {
+            levels[vertex] = level;
         }
+    };
+    for column in &graph.columns {
+        let share = height / column.len() as f64;
+        settle(column, &|_, place, _| share * (place as f64 + 0.5));
+    }
+    let there_and_back = graph.columns.iter().chain(graph.columns.iter().rev());
+    let sweeps = (0..SWEEPS).flat_map(|_| there_and_back.clone());
+    for column in sweeps {
+        settle(column, &|levels, _, vertex| {
+            mean(levels, &neighbours[vertex], levels[vertex])
+        });
     }
     levels
 }

@@ -2,9 +2,19 @@
 
 use crate::html::element::{element, Element};
 use crate::html::svg::{circle, drawn, rect};
+use crate::plan::Plan;
 
 /// The initiators of a plan, rising, have colours 0 to 7; more are only in a plan that is refused.
 pub const COLOURS: usize = 8;
+
+/// Those who have a colour, rising. In a refused plan an entry's initiator may have no path.
+pub fn initiators(plan: &Plan) -> Vec<u8> {
+    let mut initiators = plan.initiators();
+    initiators.extend(plan.entries.iter().map(|entry| entry.initiator));
+    initiators.sort_unstable();
+    initiators.dedup();
+    initiators
+}
 
 /// The class that gives a bar or a box the colour and the pattern of the initiator at this place.
 pub fn colour(place: usize) -> String {
@@ -93,6 +103,7 @@ table { border-collapse: collapse; font-size: 9pt; }
 th, td { padding: 0.5mm 2mm; border-bottom: 0.2mm solid #999; text-align: left; vertical-align: top; }
 thead { display: table-header-group; }
 thead th { border-bottom: 0.4mm solid #000; vertical-align: bottom; }
+th.number { width: 1%; }
 th.number, td.number { text-align: right; font-variant-numeric: tabular-nums; white-space: nowrap; }
 .wide { width: 100%; }
 .rest { width: 55%; }

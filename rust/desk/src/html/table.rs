@@ -8,7 +8,7 @@ use crate::html::document::section;
 use crate::html::element::{element, words, Element};
 use crate::html::marks::Marks;
 use crate::html::once::Once;
-use crate::html::style::colour;
+use crate::html::style::{colour, initiators};
 use crate::html::svg::{drawn, fitted, group, line, rect, short, svg, text, width, PAPER};
 use crate::names::Names;
 use crate::plan::Plan;
@@ -70,11 +70,7 @@ A pointed bar runs on in the next block, after slot 63 in slot 0.";
 
 impl<'a> Table<'a> {
     fn of(plan: &'a Plan<'a>, names: &'a Names, marks: &'a Marks) -> Self {
-        let mut initiators = plan.initiators();
-        initiators.extend(plan.entries.iter().map(|entry| entry.initiator));
-        initiators.sort_unstable();
-        initiators.dedup();
-        let rows: Vec<_> = initiators
+        let rows: Vec<_> = initiators(plan)
             .into_iter()
             .map(|initiator| Row {
                 initiator,

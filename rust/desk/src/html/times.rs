@@ -129,6 +129,26 @@ fn needs(plan: &Plan, times: &Times) -> Element {
         .add(body)
 }
 
+/// The targets of an entry, and those of them that it never permits.
+fn targets(plan: &Plan, times: &Times, entry: &Entry) -> String {
+    let fits = |&target: &u8| {
+        let path = plan.path(entry.initiator, target);
+        path.is_some_and(|path| times.largest(plan.routers(&path), entry.span).is_some())
+    };
+    let never: Vec<u8> = entry
+        .targets
+        .iter()
+        .copied()
+        .filter(|target| !fits(target))
+        .collect();
+    let targets = numbers(entry.targets);
+    if never.is_empty() || never.len() == entry.targets.len() {
+        targets
+    } else {
+        format!("{targets}; never {}", numbers(&never))
+    }
+}
+
 fn need_row(plan: &Plan, times: &Times, alike: &Alike) -> Element {
     let entry = &alike.entry;
     let span = times.time_of(entry.span);
@@ -140,7 +160,7 @@ fn need_row(plan: &Plan, times: &Times, alike: &Alike) -> Element {
         .add(words("td", entry.initiator).class("number"))
         .add(words("td", numbers(&alike.slots)))
         .add(words("td", entry.span).class("number"))
-        .add(words("td", numbers(entry.targets)));
+        .add(words("td", targets(plan, times, entry)));
     let Some(need) = need(plan, times, entry) else {
         let never = words("td", "never permitted: not even 0 bytes fit").with("colspan", 5);
         return row.add(never);

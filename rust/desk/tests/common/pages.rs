@@ -42,3 +42,25 @@ pub fn sorted<T: Ord>(values: impl IntoIterator<Item = T>) -> Vec<T> {
     values.sort();
     values
 }
+
+/// The words of a page as lines: headings, paragraphs and items, the rows of tables, and of drawings their names. A verdict is left out.
+pub fn said(node: &Node) -> Vec<String> {
+    match node.name.as_str() {
+        _ if node.get("id") == Some("verdict") => vec!["[verdict]".to_string()],
+        "title" | "style" => Vec::new(),
+        "h1" | "h2" | "h3" => vec![String::new(), format!("# {}", node.text())],
+        "p" | "li" => vec![node.text()],
+        "tr" => {
+            let cells: Vec<_> = node.inside.iter().map(Node::text).collect();
+            vec![cells.join(" | ")]
+        }
+        "svg" => {
+            let label = node.get("aria-label");
+            label
+                .map(|label| format!("[{label}]"))
+                .into_iter()
+                .collect()
+        }
+        _ => node.inside.iter().flat_map(said).collect(),
+    }
+}
