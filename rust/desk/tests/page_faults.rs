@@ -5,10 +5,9 @@ mod common;
 use common::pages::{all_plans, cells, drawn, of_text, sorted, source};
 use common::xml::Node;
 use common::{bytes, run, SHOW};
-use desk::judge::{in_words, judge};
-use desk::page::behind;
+use desk::judge::judge;
+use desk::page::page as shown_page;
 use desk::source::Source;
-use spwd::Verdict;
 
 /// What is marked, by class and by name; a bar that goes on in another block is so in all its parts.
 fn marked(page: &Node) -> String {
@@ -214,34 +213,38 @@ fn from_bytes() {
     );
 }
 
-/// The verdict stands on top in words, with all that `spwd-show` says of it.
+/// The verdict stands on top in words, with all that `spwd-show` says of it before it draws the table.
 #[test]
 fn verdicts_in_words() {
-    let mut refused = 0;
+    let (mut refused, mut further) = (0, 0);
     for name in all_plans() {
         let source = source(&name);
         let page = drawn(&source);
         let verdict = judge(source.bytes()).verdict;
-        let Verdict::Refused(fault) = &verdict else {
+        let Some(head) = page.id("verdict").filter(|_| !verdict.is_accepted()) else {
             assert!(page.id("about").is_none(), "{name}");
             assert_eq!(marked(&page), "", "{name}");
             continue;
         };
         refused += 1;
-        let said = page.id("verdict").unwrap();
+        further += page.id("further").iter().count();
         let number = verdict.number().to_string();
-        assert_eq!(said.get("data-verdict"), Some(&number[..]), "{name}");
-        let words = in_words(&verdict);
-        assert_eq!(said.named("strong")[0].text(), words[0], "{name}");
-        assert_eq!(said.named("pre")[0].text(), words[1..].join("\n"), "{name}");
-        let about = page.id("about").map(Node::text).unwrap_or_default();
-        let lines: String = behind(&source, fault)
-            .iter()
-            .map(|line| format!("{line}\n"))
-            .collect();
-        assert_eq!(about, lines, "{name}");
+        assert_eq!(head.get("data-verdict"), Some(&number[..]), "{name}");
+        let mut said = head.named("strong")[0].text();
+        for part in head.named("pre") {
+            let blank = if part.get("id").is_some() { "\n" } else { "" };
+            said += &format!("\n{blank}{}", part.text().trim_end());
+        }
+        let shown = shown_page(&source).0.join("\n");
+        assert!(shown.starts_with(&said), "{name}: {said}\n\n{shown}");
+        let rest = &shown[said.len()..];
+        let table = ["\n\ntable (", "\n\nwhat is left"];
+        assert!(
+            rest.is_empty() || table.iter().any(|table| rest.starts_with(table)),
+            "{name}: {rest}"
+        );
     }
-    assert!(refused > 30, "{refused}");
+    assert!(refused > 30 && further > 2, "{refused} {further}");
 }
 
 /// Of a file that is too long nothing is drawn; of a damaged one what stands before the damage.

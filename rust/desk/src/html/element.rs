@@ -1,5 +1,6 @@
 //! Elements of a page in the form that HTML and XML share: each is closed, each attribute quoted and there once, all text escaped.
 
+use crate::invisible::is_invisible;
 use std::fmt::{self, Display, Formatter};
 
 /// Elements that have no end and nothing inside.
@@ -119,17 +120,9 @@ pub fn escaped(words: &str) -> String {
             '"' => escaped += "&quot;",
             '\'' => escaped += "&#39;",
             '\n' => escaped.push('\n'),
-            _ if is_unseen(character) => escaped.extend(character.escape_unicode()),
+            _ if is_invisible(character) => escaped.extend(character.escape_unicode()),
             _ => escaped.push(character),
         }
     }
     escaped
-}
-
-/// Control characters, those that turn or join what stands around them, and the two that are none.
-fn is_unseen(character: char) -> bool {
-    character.is_control()
-        || matches!(character,
-            '\u{ad}' | '\u{61c}' | '\u{200b}'..='\u{200f}' | '\u{2028}'..='\u{202e}'
-            | '\u{2060}'..='\u{206f}' | '\u{feff}' | '\u{fff9}'..='\u{fffb}' | '\u{fffe}' | '\u{ffff}')
 }

@@ -2,12 +2,14 @@
 
 use crate::fields::Timing;
 use crate::fingerprint::fingerprint;
+use crate::further::{further, sifted};
 use crate::html::element::{element, words, Element};
 use crate::html::marks::Marks;
 use crate::judge::{in_words, place, Judged};
 use crate::page::behind;
 use crate::plan::Plan;
 use crate::source::Source;
+use crate::taken::hint;
 use spwd::{Fault, Verdict};
 
 /// What the caller says of the page.
@@ -82,21 +84,22 @@ fn counts(judged: &Judged, plan: &Plan) -> String {
     )
 }
 
-/// The verdict in words, and what it is about.
+/// The verdict in words, what it is about, and what else is at fault.
 fn refused(source: &Source, verdict: &Verdict, fault: &Fault) -> Element {
-    let said = in_words(verdict);
-    let first = said.first().cloned().unwrap_or_default();
-    let mut inside = element("div")
+    let mut said: Vec<_> = in_words(verdict).into_iter().skip(1).collect();
+    said.extend(hint(source).map(|hint| format!("    {hint}")));
+    let inside = element("div")
         .class("verdict refused")
         .with("id", "verdict")
         .with("data-verdict", verdict.number())
-        .add(words("strong", first))
-        .add(words("pre", said.get(1..).unwrap_or_default().join("\n")));
+        .add(words("strong", verdict))
+        .add(words("pre", said.join("\n")));
     let behind = behind(source, fault);
-    if !behind.is_empty() {
-        inside = inside.add(about(source, fault, &behind));
-    }
-    inside
+    let about = (!behind.is_empty()).then(|| about(source, fault, &behind));
+    let further = further(source, &sifted(source), fault);
+    let others = words("pre", further.join("\n")).with("id", "further");
+    let others = (!further.is_empty()).then_some(others);
+    inside.add_all(about).add_all(others)
 }
 
 /// Lines, with the one of the field at fault marked.
