@@ -103,12 +103,14 @@ table { border-collapse: collapse; font-size: 9pt; }
 th, td { padding: 0.5mm 2mm; border-bottom: 0.2mm solid #999; text-align: left; vertical-align: top; }
 thead { display: table-header-group; }
 thead th { border-bottom: 0.4mm solid #000; vertical-align: bottom; }
-th.number { width: 1%; }
 th.number, td.number { text-align: right; font-variant-numeric: tabular-nums; white-space: nowrap; }
+th.number { width: 1%; white-space: normal; }
 .wide { width: 100%; }
 .rest { width: 55%; }
 .two { columns: 2; column-gap: 8mm; }
-.two table { width: 100%; }
+.two table { width: 100%; font-size: 8.5pt; }
+.two th, .two td { padding: 0.5mm 1mm; }
+.two .rest { width: auto; }
 .two .mono { white-space: nowrap; }
 tr, svg, pre, .whole { break-inside: avoid; }
 .facts { margin: 2mm 0; }

@@ -35,6 +35,9 @@ fn cells(name: &'static str, numbers: impl IntoIterator<Item = String>) -> Vec<E
         .collect()
 }
 
+/// Times below this have room in half the page.
+const SIX_DIGITS: u32 = 1_000_000;
+
 fn of_paths(plan: &Plan, times: &Times) -> Element {
     let head = ["from", "to", "routers"].map(String::from).into_iter();
     let head = head.chain(LENGTHS.map(|length| length.to_string()));
@@ -55,7 +58,13 @@ fn of_paths(plan: &Plan, times: &Times) -> Element {
         body = body.add(row);
     }
     let table = element("table").add(element("thead").add(head)).add(body);
-    folded(table, plan.paths.len(), true)
+    let longest = LENGTHS.last().copied().unwrap_or_default();
+    let times = plan
+        .paths
+        .iter()
+        .map(|path| times.time(plan.routers(path), longest));
+    let narrow = times.flatten().all(|time| time < SIX_DIGITS);
+    folded(table, plan.paths.len(), narrow)
 }
 
 /// Entries that need the same: of one initiator, with one span and the same targets.
