@@ -90,11 +90,14 @@ fn kind_of_text(text: &str) -> Kind {
 /// Whether these are the digits of a file that begins with a field of a plan.
 fn is_hex(text: &str) -> bool {
     let digits: String = text.split_whitespace().collect();
-    let pairs = digits.as_bytes().chunks(2);
-    let bytes = pairs.map(|pair| u8::from_str_radix(std::str::from_utf8(pair).ok()?, 16).ok());
-    let digits = digits.bytes().all(|digit| digit.is_ascii_hexdigit()) && digits.len() % 2 == 0;
-    let bytes: Option<Vec<_>> = bytes.collect();
-    digits && bytes.is_some_and(|bytes| kind_of_bytes(&bytes) == Kind::Plan)
+    let digit = |digit: &u8| char::from(*digit).to_digit(16).map(|value| value as u8);
+    let values: Option<Vec<_>> = digits.as_bytes().iter().map(digit).collect();
+    values.is_some_and(|values| {
+        let pairs = values.chunks_exact(2);
+        let even = pairs.remainder().is_empty();
+        let bytes: Vec<_> = pairs.map(|pair| 16 * pair[0] + pair[1]).collect();
+        even && kind_of_bytes(&bytes) == Kind::Plan
+    })
 }
 
 impl Kind {

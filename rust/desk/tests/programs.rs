@@ -1,10 +1,11 @@
-//! What the four programs have in common: help, wrong words, files that cannot be read, readers that go away.
+//! What the programs have in common: help, wrong words, files that cannot be read, readers that go away, streams that are closed.
 
 mod common;
 
-use common::{root, run, COMPILE, PANEL, SHEET, SHOW};
+use common::{root, run, COMPILE, COUNTER, PANEL, SHEET, SHOW};
 use std::fs::File;
 use std::io::Write;
+use std::path::Path;
 use std::process::{Command, Stdio};
 
 const PROGRAMS: [(&str, &str); 4] = [
@@ -14,14 +15,96 @@ const PROGRAMS: [(&str, &str); 4] = [
     ("spwd-panel", PANEL),
 ];
 
+/// These, and the one whose words are others.
+fn all() -> Vec<(&'static str, &'static str)> {
+    [&PROGRAMS[..], &[("spwd-counter", COUNTER)]].concat()
+}
+
 #[test]
 fn help() {
-    for (name, program) in PROGRAMS {
+    for (name, program) in all() {
         let ran = run(program, &["--help"], b"");
         assert!(ran.text().starts_with(&format!("{name} ")), "{name}");
         assert!(ran.text().contains("\nStatus: 0 "), "{name}");
+        assert!(ran.text().contains(" this, as -h; --version "), "{name}");
         assert_eq!((ran.err.as_str(), ran.status), ("", 0), "{name}");
+        assert_eq!(run(program, &["-h"], b""), ran, "{name}");
+        let widest = ran.text().lines().map(|line| line.chars().count()).max();
+        assert!(widest <= Some(115), "{name}: {widest:?}");
     }
+}
+
+#[test]
+fn version() {
+    for (name, program) in all() {
+        let ran = run(program, &["--version"], b"");
+        let said = format!("{name} 0.1.0, interface version {}\n", spwd::VERSION);
+        assert_eq!((ran.text(), &ran.err[..], ran.status), (&said[..], "", 0));
+    }
+}
+
+/// What a command line ends with, and what it says on standard error.
+fn bash(line: &str, programs: &str) -> (String, Option<i32>) {
+    let output = Command::new("bash")
+        .args(["-c", line])
+        .env("PATH", format!("{programs}:/usr/bin:/bin"))
+        .current_dir(root())
+        .output()
+        .unwrap();
+    assert_eq!(output.stdout, b"", "{line}");
+    (
+        String::from_utf8(output.stderr).unwrap(),
+        output.status.code(),
+    )
+}
+
+/// A standard stream that is closed is an error where it is needed; /dev/null, as a shell opens it, is none.
+#[test]
+fn closed_streams() {
+    let programs = Path::new(COMPILE).parent().unwrap().display().to_string();
+    let image = format!("{}/closed.img", env!("CARGO_TARGET_TMPDIR"));
+    std::fs::write(&image, spwd::Spwd::new().image().bytes()).unwrap();
+    let closed = "is closed (or /dev/null, opened for both reading and writing)";
+    for (name, words) in [
+        ("spwd-compile", "plans/guide.plan".to_string()),
+        ("spwd-compile", "--text plans/guide.plan".to_string()),
+        ("spwd-show", "plans/guide.plan".to_string()),
+        ("spwd-sheet", "plans/times.plan".to_string()),
+        ("spwd-panel", "docs/guide.script".to_string()),
+        ("spwd-counter", format!("blank {image}")),
+        ("spwd-show", "--help".to_string()),
+        ("spwd-show", "--version".to_string()),
+    ] {
+        let said = format!("{name}: standard output {closed}\n");
+        let closed = bash(&format!("{name} {words} >&-"), &programs);
+        assert_eq!(closed, (said, Some(3)), "{words}");
+        let (said, status) = bash(&format!("{name} {words} >/dev/null"), &programs);
+        assert!(!said.contains("closed"), "{said}");
+        assert_eq!(status, Some(0), "{words}");
+        // Nobody is there to be told, and all the rest is as always.
+        let quiet = bash(&format!("{name} {words} >/dev/null 2>&-"), &programs);
+        assert_eq!(quiet, (String::new(), Some(0)), "{words}");
+        let status = bash(&format!("{name} {words} >&- 2>&-"), &programs).1;
+        assert_eq!(status, Some(3), "{words}");
+    }
+    for (name, words) in [
+        ("spwd-compile", "-"),
+        ("spwd-show", ""),
+        ("spwd-show", "--text -"),
+        ("spwd-sheet", ""),
+        ("spwd-panel", ""),
+        ("spwd-counter", "blank -"),
+    ] {
+        let said = format!("{name}: standard input {closed}\n");
+        let line = format!("{name} {words} <&- >/dev/null");
+        assert_eq!(bash(&line, &programs), (said, Some(3)), "{line}");
+        let line = format!("{name} {words} </dev/null >/dev/null");
+        let (said, _) = bash(&line, &programs);
+        assert!(!said.contains("closed"), "{line}: {said}");
+    }
+    // Input that is not needed may be closed.
+    let line = "spwd-show plans/guide.plan <&- >/dev/null";
+    assert_eq!(bash(line, &programs), (String::new(), Some(0)));
 }
 
 fn refused(program: &str, words: &[&str], said: &str) {
@@ -275,15 +358,19 @@ fn a_closed_pipe() {
 #[test]
 fn a_full_disk() {
     let full = || Stdio::from(File::options().write(true).open("/dev/full").unwrap());
+    let image = format!("{}/full.img", env!("CARGO_TARGET_TMPDIR"));
+    std::fs::write(&image, spwd::Spwd::new().image().bytes()).unwrap();
+    let blank = format!("blank {image}");
     for (name, program, words) in [
         ("spwd-compile", COMPILE, "plans/sample-first.plan"),
         ("spwd-show", SHOW, "plans/sample-first.plan"),
         ("spwd-sheet", SHEET, "plans/times.plan"),
         ("spwd-panel", PANEL, "rust/desk/tests/scripts/samples.txt"),
+        ("spwd-counter", COUNTER, &blank),
     ] {
         let run = |err: Stdio| {
             let mut command = Command::new(program);
-            let command = command.arg(words).current_dir(root());
+            let command = command.args(words.split(' ')).current_dir(root());
             command
                 .stdout(full())
                 .stderr(err)
