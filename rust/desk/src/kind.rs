@@ -50,11 +50,12 @@ pub fn kind(bytes: &[u8]) -> Kind {
     }
 }
 
-/// Whether there is no control character but those that part words and lines, and most is ASCII: comments may be in any script.
+/// Whether there is no control character but those that part words and lines. Comments may be in any script, and in an old encoding.
 fn is_text(bytes: &[u8]) -> bool {
     let ascii = bytes.iter().filter(|byte| byte.is_ascii()).count();
     let control = |byte: &u8| byte.is_ascii_control() && !byte.is_ascii_whitespace();
-    2 * ascii >= bytes.len() && !bytes.iter().any(control)
+    let encoded = std::str::from_utf8(bytes).is_ok() || 2 * ascii >= bytes.len();
+    encoded && !bytes.iter().any(control)
 }
 
 fn kind_of_bytes(bytes: &[u8]) -> Kind {

@@ -78,6 +78,8 @@ fn by_content() {
         (b"\xef\xbb\xbfnode 1\r\n", Kind::Text),
         (b"nod 1\nnode 2\n", Kind::Text),
         (b"\tentry 1\n", Kind::Text),
+        ("# 計画計画計画計画\nnode 1\n".as_bytes(), Kind::Text),
+        (b"node 1 # Instrument f\xfcr J\xe4ger\n", Kind::Text),
         (b"load -\nnode 1\nclear\n", Kind::Script),
         (b"\xff\xfen\0o\0d\0e\0", Kind::Wide),
         (b"\xfe\xff\0n\0o", Kind::Wide),
