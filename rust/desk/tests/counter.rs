@@ -676,3 +676,123 @@ fn as_the_guide_has_them() {
         );
     }
 }
+
+/// Numbers below 64 in an order by chance.
+fn shuffled(chance: &mut Chance) -> Vec<u8> {
+    let mut numbers: Vec<_> = (0..64).collect();
+    for place in 1..64 {
+        numbers.swap(place, chance.below(place + 1));
+    }
+    numbers
+}
+
+/// Nodes on two routers, which are joined by two links: a node of an even place is on the first router.
+struct Network {
+    devices: Vec<u8>,
+    links: Vec<u8>,
+    nodes: usize,
+}
+
+/// The places of the routers, and of the links between them.
+const ONE: usize = 62;
+const OTHER: usize = 63;
+
+impl Network {
+    fn by_chance(chance: &mut Chance) -> Self {
+        let (devices, links) = (shuffled(chance), shuffled(chance));
+        let nodes = 2 + chance.below(40);
+        Self {
+            devices,
+            links,
+            nodes,
+        }
+    }
+
+    fn lines(&self) -> String {
+        let (devices, links) = (&self.devices, &self.links);
+        let [one, other] = [ONE, OTHER].map(|place| devices[place]);
+        let [there, back] = [ONE, OTHER].map(|place| links[place]);
+        let nodes = (0..self.nodes).map(|node| format!("node {}\n", devices[node]));
+        let ends = (0..self.nodes).map(|node| {
+            let router = if node % 2 == 0 { one } else { other };
+            format!("link {} {} {router}\n", links[node], devices[node])
+        });
+        format!("router {one}\nrouter {other}\n")
+            + &nodes.collect::<String>()
+            + &format!("link {there} {one} {other}\nlink {back} {other} {one}\n")
+            + &ends.collect::<String>()
+    }
+
+    /// The links from one node to another, over one of the links between the routers if need be.
+    fn way(&self, from: usize, to: usize, between: usize) -> String {
+        let links = &self.links;
+        match from % 2 == to % 2 {
+            true => format!("{} {}", links[from], links[to]),
+            false => format!("{} {} {}", links[from], links[between], links[to]),
+        }
+    }
+}
+
+/// A plan that a box takes: no two entries cover a slot. Replies come home over the second link, if they have a way of their own.
+fn plan_by_chance(chance: &mut Chance) -> String {
+    let network = Network::by_chance(chance);
+    let (mut paths, mut replies) = (String::new(), String::new());
+    let mut targets = vec![Vec::new(); 1 + chance.below(network.nodes.min(8))];
+    for (initiator, targets) in targets.iter_mut().enumerate() {
+        for target in (0..network.nodes)
+            .filter(|&target| target != initiator)
+            .take(16)
+        {
+            let pair = format!("{} {}", network.devices[initiator], network.devices[target]);
+            if targets.is_empty() || chance.below(3) > 0 {
+                paths += &format!("path {pair} {}\n", network.way(initiator, target, ONE));
+                targets.push(network.devices[target]);
+                if chance.below(2) == 0 {
+                    replies += &format!("reply {pair} {}\n", network.way(target, initiator, OTHER));
+                }
+            }
+        }
+    }
+    network.lines() + &paths + &entries_by_chance(chance, &network, &targets) + &replies
+}
+
+/// Entries, intervals and perhaps slot times.
+fn entries_by_chance(chance: &mut Chance, network: &Network, targets: &[Vec<u8>]) -> String {
+    let mut text = String::new();
+    let mut slot = chance.below(8);
+    while slot < 48 {
+        let (initiator, span) = (chance.below(targets.len()), 1 + chance.below(16));
+        let several = 1 + chance.below(targets[initiator].len());
+        let several = targets[initiator][..several].iter().rev();
+        let several: Vec<_> = several.map(u8::to_string).collect();
+        let (device, several) = (network.devices[initiator], several.join(" "));
+        text += &format!("entry {device} {slot} {span} {several}\n");
+        slot += span + chance.below(5);
+    }
+    text += &format!(
+        "intervals {} {}\n",
+        chance.below(100),
+        100 + chance.below(1 << 30)
+    );
+    if chance.below(2) == 0 {
+        text += &format!("times {}", 2 + chance.below(399));
+        (0..5).for_each(|_| text += &format!(" {}", chance.below(1_000_001)));
+        text.push('\n');
+    }
+    text
+}
+
+/// Whatever plan a load leaves in memory is read back from it.
+#[test]
+fn plans_by_chance() {
+    let mut chance = Chance(0x5eed_0022);
+    for _ in 0..300 {
+        let text = plan_by_chance(&mut chance);
+        let judged = judge(&desk::form::compile(text.as_bytes()).unwrap().bytes);
+        assert!(judged.verdict.is_accepted(), "{}\n{text}", judged.verdict);
+        let image = judged.desk.image();
+        assert_eq!(read(&image), Ok(judged.held.clone()), "{text}");
+        let line = format!("HOLDS {}", fingerprint(&judged.held));
+        assert_eq!(holds(&image, &judged.held), Answer { line, yes: true });
+    }
+}
