@@ -140,7 +140,7 @@ impl Kind {
         })
     }
 
-    /// How it is called.
+    /// How it is called, if it is anything.
     pub fn name(self) -> Option<&'static str> {
         Some(match self {
             Kind::Plan => "a plan file",
@@ -148,10 +148,9 @@ impl Kind {
             Kind::Hex => "a plan file in hex",
             Kind::Script => "a script",
             Kind::Image => "an image of a box",
-            Kind::Empty => "nothing at all",
             Kind::Wide => "text in UTF-16",
             Kind::Words => "text",
-            Kind::Other => return None,
+            Kind::Empty | Kind::Other => return None,
         })
     }
 }

@@ -1,4 +1,4 @@
-//! What the desk tools `spwd-compile`, `spwd-show`, `spwd-sheet` and `spwd-panel` share.
+//! What the desk tools `spwd-compile`, `spwd-show`, `spwd-sheet`, `spwd-panel` and `spwd-counter` share.
 //!
 //! What decides is the proved box behind the crate `spwd`: every verdict, every time and every answer is its own. What is read here of a
 //! plan's bytes is only put into words.

@@ -35,8 +35,11 @@ pub fn page(source: &Source) -> (Vec<String>, bool) {
     (lines, judged.verdict.is_accepted())
 }
 
-/// What a refusal is about, what else is at fault, and the table of the entries that are not.
+/// What a refusal is about, what else is at fault, and the table of the entries that are not; of what looks like no plan file the first alone.
 fn refused(source: &Source, fault: &Fault) -> Vec<Vec<String>> {
+    if hint(source).is_some() {
+        return vec![behind(source, fault)];
+    }
     let sifted = sifted(source);
     let further = further(source, &sifted, fault);
     vec![behind(source, fault), further, table(&sifted, fault)]

@@ -53,14 +53,17 @@ fn is_text(input: &Input, read: &[u8], form: Form) -> bool {
     }
 }
 
-/// Behind complaints stands what it looks like, where that is no text.
+/// Behind complaints about lines stands what it looks like, if that is no plan in text. Of what has no lines it is all that is said.
 fn plan(input: &Input, read: &[u8], text: bool) -> Result<Source, Vec<String>> {
     let name = input.name();
     if !text {
         return Ok(Source::file(name, read.to_vec()));
     }
+    let kind = kind(read);
+    let lines = matches!(kind, Kind::Text | Kind::Script | Kind::Words | Kind::Other);
     Source::text(name, read).map_err(|mut complaints| {
-        let hint = kind(read).not_text();
+        complaints.retain(|_| lines);
+        let hint = kind.not_text();
         complaints.extend(hint.map(|hint| format!("{}: {hint}", input.name())));
         complaints
     })

@@ -590,9 +590,7 @@ fn no_image() {
             &zeros,
             &format!("standard input: 15657 bytes, {right}"),
         );
-        let empty = format!(
-            "standard input: 0 bytes, {right}, so it is cut off; this looks like nothing at all"
-        );
+        let empty = format!("standard input: 0 bytes, {right}, so it is cut off");
         trouble(words, b"", &empty);
         let plan = format!(
             "standard input: 110 bytes, {right}, so it is cut off; this looks like a plan file"

@@ -207,8 +207,12 @@ fn no_text() {
     ] {
         for (program, words) in [(COMPILE, "-"), (SHOW, "--text"), (SHEET, "--text")] {
             let ran = run(program, &[words], input);
-            let end = format!("\nstandard input: {hint}\n");
-            assert!(ran.err.ends_with(&end), "{}", ran.err);
+            let said = format!("standard input: {hint}\n");
+            if [SCRIPT, WORDS].contains(&hint) {
+                assert!(ran.err.ends_with(&format!("\n{said}")), "{}", ran.err);
+            } else {
+                assert_eq!(ran.err, said);
+            }
             assert_eq!((ran.text(), ran.status), ("", 2), "{hint}");
         }
     }

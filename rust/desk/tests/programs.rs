@@ -30,7 +30,7 @@ fn help() {
         assert_eq!((ran.err.as_str(), ran.status), ("", 0), "{name}");
         assert_eq!(run(program, &["-h"], b""), ran, "{name}");
         let widest = ran.text().lines().map(|line| line.chars().count()).max();
-        assert!(widest <= Some(115), "{name}: {widest:?}");
+        assert!(widest <= Some(120), "{name}: {widest:?}");
     }
 }
 

@@ -216,7 +216,8 @@ fn forms() {
     assert_eq!(ran.status, 1);
     let ran = run(SHOW, &["--text"], &bytes("plans/sample-intervals.plan"));
     assert_eq!((ran.text(), ran.status), ("", 2));
-    assert!(ran.err.starts_with("standard input:1: "), "{}", ran.err);
+    let said = "standard input: this looks like a plan file and is no text: ";
+    assert!(ran.err.starts_with(said), "{}", ran.err);
 }
 
 /// No line of a page of an accepted plan is wider than 80 columns.

@@ -8,6 +8,9 @@
 //! [`Result`]: a load the [`Counts`] of the plan or the [`Fault`] of the file, events, the next turn and writing out what they have to say
 //! or a [`Refusal`], and [`sheet()`] and [`sheet2()`], which ask no box, the time of a transaction or that a number is out of range.
 //!
+//! An [`Image`] is the memory of some box as bytes, as a jig reads it back: whether it is blank, and whether it holds a plan, may be asked of
+//! any.
+//!
 //! ```
 //! use spwd::{records, Counts, Record, Spwd, READ, RECORDS_ROOM};
 //!
