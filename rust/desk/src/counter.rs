@@ -55,7 +55,7 @@ fn found(image: &Image) -> Found {
 pub fn blank(image: &Image) -> Answer {
     let what = match found(image) {
         Found::Blank => return yes("BLANK".to_string()),
-        Found::NoPlan => nothing_but(image),
+        Found::NoPlan => format!("no plan, but {}", nothing_but(image)),
         Found::Strange => format!("{STRANGE}; {}", first_number(image)),
         Found::Plan(file, running) => {
             let counts = place(&judge(&file).verdict).unwrap_or_default();
@@ -80,7 +80,7 @@ pub fn holds(image: &Image, file: &[u8]) -> Answer {
     let holds = image.holds(file, &mut spwd::Plan::new());
     match found(image) {
         Found::Blank => no("NO PLAN: the box is blank".to_string()),
-        Found::NoPlan => no(format!("NO PLAN: {}", nothing_but(image))),
+        Found::NoPlan => no(format!("NO PLAN: {YET}: {}", nothing_but(image))),
         Found::Strange => no(format!("DAMAGED: {STRANGE}; {}", first_number(image))),
         Found::Plan(_, Err(wrong)) => no(format!("DAMAGED: {}", strange_running(image, &wrong))),
         Found::Plan(..) if holds => yes(format!("HOLDS {given}")),
@@ -102,7 +102,7 @@ pub fn read(image: &Image) -> Result<Vec<u8>, String> {
     let refused = format!("refused {}: {}", row.number, row.means);
     match found(image) {
         Found::Blank => Err(format!("{refused}: the box is blank")),
-        Found::NoPlan => Err(format!("{refused}: {}", nothing_but(image))),
+        Found::NoPlan => Err(format!("{refused}: {YET}: {}", nothing_but(image))),
         Found::Strange => Err(format!("{STRANGE}; {}", first_number(image))),
         Found::Plan(_, Err(wrong)) => Err(strange_running(image, &wrong)),
         Found::Plan(file, Ok(_)) => Ok(file),
@@ -110,19 +110,19 @@ pub fn read(image: &Image) -> Result<Vec<u8>, String> {
 }
 
 const STRANGE: &str = "no load leaves such memory";
+const YET: &str = "and yet the box is not blank";
 
 /// Of memory without a plan that is not blank.
 fn nothing_but(image: &Image) -> String {
-    let run = 0..Array::RUN.count;
-    let running = run
-        .into_iter()
-        .any(|place| image.number(Array::RUN, place) != 0);
-    let what = if running || image.number(Array::LAST, 0) != 0 {
-        "what waits, runs or was seen is not 0: no load leaves such memory"
+    let mut run = 0..Array::RUN.count;
+    let what = if run.any(|place| image.number(Array::RUN, place) != 0) {
+        format!("run memory is not 0: {STRANGE}")
+    } else if image.number(Array::LAST, 0) != 0 {
+        format!("a time-code was seen: {STRANGE}")
     } else {
-        "the watchdog's numbers are not 0"
+        "the watchdog's numbers are not 0".to_string()
     };
-    format!("no plan, but {what}; {}", first_number(image))
+    format!("{what}; {}", first_number(image))
 }
 
 /// Of memory that is not blank.

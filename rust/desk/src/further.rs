@@ -120,9 +120,10 @@ fn faulty_fields(source: &Source, sifted: &Sifted, first: &Fault) -> Vec<String>
     if faults.is_empty() {
         return Vec::new();
     }
-    let head = match sifted.faulty.is_empty() {
-        true => "further faults:",
-        false => "further faults, with the fields at fault left out:",
+    let head = if sifted.faulty.is_empty() {
+        "further faults:"
+    } else {
+        "further faults, with the fields at fault left out:"
     };
     let mut lines = vec![head.to_string()];
     lines.extend(listed(faults.into_iter()));

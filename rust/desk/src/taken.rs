@@ -28,9 +28,10 @@ impl Form {
 pub fn taken(program: &str, input: &Input, read: &[u8], form: Form) -> Result<Source, Vec<String>> {
     let text = is_text(input, read, form);
     if form == Form::Unsaid && text != input.is_plan() {
-        let (form, other) = match text {
-            true => ("a plan in text", "--bytes takes it as a plan file"),
-            false => ("a plan file", "--text takes it as text"),
+        let (form, other) = if text {
+            ("a plan in text", "--bytes takes it as a plan file")
+        } else {
+            ("a plan file", "--text takes it as text")
         };
         let name = input.name();
         say(&[format!("{program}: {name}: taken as {form}; {other}")]);

@@ -109,12 +109,12 @@ fn memory_that_no_load_leaves() {
         ),
         (
             Array::RUN.offset + 8 * 13,
-            "NOT BLANK: no plan, but what waits, runs or was seen is not 0: no load leaves such memory; \
+            "NOT BLANK: no plan, but run memory is not 0: no load leaves such memory; \
              the first number that is not 0 is run[13] = 7, at byte 14968",
         ),
         (
             Array::LAST.offset,
-            "NOT BLANK: no plan, but what waits, runs or was seen is not 0: no load leaves such memory; \
+            "NOT BLANK: no plan, but a time-code was seen: no load leaves such memory; \
              the first number that is not 0 is last[0] = 7, at byte 15652",
         ),
         (
@@ -131,8 +131,10 @@ fn memory_that_no_load_leaves() {
         let (line, why) = if place < Array::RUN.offset {
             (format!("DAMAGED: {what}"), what.to_string())
         } else {
-            let why = format!("refused 20: there is no plan in the box: {what}");
-            (format!("NO PLAN: {what}"), why)
+            let what = what.strip_prefix("no plan, but ").unwrap();
+            let yet = format!("and yet the box is not blank: {what}");
+            let why = format!("refused 20: there is no plan in the box: {yet}");
+            (format!("NO PLAN: {yet}"), why)
         };
         says(&held, &line, 1);
         let why = format!("standard input: {why}\n");

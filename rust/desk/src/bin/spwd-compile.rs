@@ -109,9 +109,10 @@ fn hex_line(bytes: &[u8]) -> Vec<u8> {
 /// The plan of a text; where a canonical file is wanted, of a plan file too.
 fn source(input: &Input, wanted: &Wanted) -> Result<Result<Source, Vec<String>>, String> {
     let read = input.read(TEXT)?;
-    Ok(match wanted.canonical {
-        true => recognised(input, &read),
-        false => taken(NAME, input, &read, Form::Text),
+    Ok(if wanted.canonical {
+        recognised(input, &read)
+    } else {
+        taken(NAME, input, &read, Form::Text)
     })
 }
 
@@ -126,9 +127,10 @@ fn compile(input: &Input, wanted: &Wanted) -> Result<Status, String> {
     };
     let judged = judge(source.bytes());
     let Verdict::Refused(fault) = judged.verdict else {
-        let bytes = match wanted.canonical {
-            true => &judged.held,
-            false => source.bytes(),
+        let bytes = if wanted.canonical {
+            &judged.held
+        } else {
+            source.bytes()
         };
         put(&wanted.form(bytes))?;
         say(&[accepted(&source, &judged)]);
@@ -149,9 +151,10 @@ fn compile(input: &Input, wanted: &Wanted) -> Result<Status, String> {
 
 impl Wanted {
     fn form(&self, bytes: &[u8]) -> Vec<u8> {
-        match self.hex {
-            true => hex_line(bytes),
-            false => bytes.to_vec(),
+        if self.hex {
+            hex_line(bytes)
+        } else {
+            bytes.to_vec()
         }
     }
 }

@@ -79,26 +79,27 @@ fn run(text: bool, words: &[OsString]) -> Result<Status, String> {
 
 /// The image, or what is wrong with what was given as one.
 fn image(input: &Input) -> Result<Image, String> {
-    let (name, bytes) = (input.name(), input.read_of(MOST + 1)?);
-    match <[u8; IMAGE_SIZE]>::try_from(&bytes[..]) {
-        Ok(bytes) => Ok(Image::new(bytes)),
-        Err(_) => {
-            let size = match bytes.len() as u64 > MOST {
-                true => format!("more than {MOST}"),
-                false => bytes.len().to_string(),
-            };
-            let cut = if bytes.len() < IMAGE_SIZE {
-                ", so it is cut off"
-            } else {
-                ""
-            };
-            let kind = kind(&bytes).name();
-            let kind = kind.map_or(String::new(), |kind| format!("; this looks like {kind}"));
-            Err(format!(
-                "{name}: {size} bytes, and an image of a box has {IMAGE_SIZE}{cut}{kind}"
-            ))
-        }
-    }
+    let bytes = input.read_of(MOST + 1)?;
+    let image = <[u8; IMAGE_SIZE]>::try_from(&bytes[..]);
+    image
+        .map(Image::new)
+        .map_err(|_| no_image(&input.name(), &bytes))
+}
+
+/// Both sizes, and what it looks like.
+fn no_image(name: &str, bytes: &[u8]) -> String {
+    let size = match bytes.len() {
+        size if size as u64 > MOST => format!("more than {MOST}"),
+        size => size.to_string(),
+    };
+    let cut = if bytes.len() < IMAGE_SIZE {
+        ", so it is cut off"
+    } else {
+        ""
+    };
+    let kind = kind(bytes).name();
+    let kind = kind.map_or(String::new(), |kind| format!("; this looks like {kind}"));
+    format!("{name}: {size} bytes, and an image of a box has {IMAGE_SIZE}{cut}{kind}")
 }
 
 fn answered(answer: Answer) -> Result<Status, String> {
