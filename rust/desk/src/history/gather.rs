@@ -120,11 +120,10 @@ impl Gathered {
     fn cut(&mut self, section: Section) {
         self.lanes = vec![Lane::default(); section.lanes.len()];
         self.last = None;
+        self.full = self.columns >= COLUMNS;
         if self.chart.sections.len() < SECTIONS {
-            self.full = false;
             self.chart.sections.push(section);
         } else {
-            self.full = true;
             self.chart.more += 1;
         }
     }

@@ -26,10 +26,12 @@ const ABOVE: f64 = 5.0;
 const WAITING: f64 = 21.0;
 const REFUSED: f64 = 31.0;
 
-/// All rows of a section.
+/// All rows of a section; none where there is no plan, and so no lane.
 pub fn rows(section: &Section) -> Vec<Element> {
-    let starts = (0..section.columns.len()).step_by(ROW);
-    starts.map(|first| Row { section, first }.drawn()).collect()
+    let columns = section.columns.len();
+    let columns = if section.lanes.is_empty() { 0 } else { columns };
+    let firsts = (0..columns).step_by(ROW);
+    firsts.map(|first| Row { section, first }.drawn()).collect()
 }
 
 struct Row<'a> {
