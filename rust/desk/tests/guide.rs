@@ -33,5 +33,5 @@ fn prints_what_it_says() {
             commands += 1;
         }
     }
-    assert_eq!(commands, 42);
+    assert_eq!(commands, 45);
 }

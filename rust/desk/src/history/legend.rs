@@ -5,9 +5,12 @@ use crate::html::element::{words, Element};
 use crate::html::svg::{group, rect, svg, PAPER};
 use spwd::{ERROR, RESERVED, SUCCESS};
 
+/// A mark at a point.
+type Mark = fn(f64, f64) -> Element;
+
 /// Marks and words side by side, in three columns.
 pub fn legend() -> Vec<Element> {
-    let said: [(fn(f64, f64) -> Element, &str); 12] = [
+    let said: [(Mark, &str); 12] = [
         (started, "a start: transaction number → target"),
         (bar, "under way, in the initiator's colour"),
         (success, "a reply ends it: success"),

@@ -24,7 +24,7 @@ const BAR: (f64, f64) = (10.0, 18.0);
 const MIDDLE: f64 = (BAR.0 + BAR.1) / 2.0;
 const ABOVE: f64 = 5.0;
 const WAITING: f64 = 21.0;
-const REFUSED: f64 = 31.0;
+const REFUSED: f64 = 30.2;
 
 /// All rows of a section; none where there is no plan, and so no lane.
 pub fn rows(section: &Section) -> Vec<Element> {
