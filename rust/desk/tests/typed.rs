@@ -310,6 +310,71 @@ fn files_that_cannot_be_had() {
     );
 }
 
+/// A file that is known for something else is not loaded; one that is damaged is for the box to refuse.
+#[test]
+fn files_of_other_kinds() {
+    let folder = folder("kinds");
+    let hex = hex("plans/guide.plan");
+    let right = "right is a plan file in lowercase hex, - for the empty one, or the name of a plan file or of its text";
+    for (name, content, looks) in [
+        (
+            "hex.txt",
+            hex.into_bytes(),
+            "this looks like a plan file in hex; ",
+        ),
+        (
+            "script.txt",
+            b"clear\ntc 0 0 136\n".to_vec(),
+            "this looks like a script: ",
+        ),
+        (
+            "words.txt",
+            b"Dear team,\n".to_vec(),
+            "this is text, but no line of it begins an item of a plan",
+        ),
+        (
+            "wide.txt",
+            b"\xff\xfen\0o\0".to_vec(),
+            "this looks like text in UTF-16: ",
+        ),
+        (
+            "image.bin",
+            vec![0; spwd::IMAGE_SIZE],
+            "this looks like an image of a box, ",
+        ),
+    ] {
+        fs::write(folder.join(name), content).unwrap();
+        let file = format!("target/typed/kinds/{name}");
+        let ran = run(PANEL, &[], format!("load {file}\n").as_bytes());
+        let said: Vec<_> = ran.text().lines().collect();
+        assert_eq!(said[0], format!("line 1: not done: load {file}"));
+        assert!(
+            said[1].starts_with(&format!("    {file}: {looks}")),
+            "{said:?}"
+        );
+        assert_eq!((said[2], said.len()), (format!("    {right}").as_str(), 3));
+        assert_eq!(ran.status, Status::Complaints as i32, "{name}");
+    }
+    for (name, content, verdict) in [
+        ("damaged.bin", vec![8, 0, 9], "REFUSED 2 0"),
+        ("empty.bin", Vec::new(), "REFUSED 12 0"),
+        ("empty.plan", Vec::new(), "REFUSED 12 0"),
+    ] {
+        fs::write(folder.join(name), content).unwrap();
+        let ran = run(
+            PANEL,
+            &[],
+            format!("load target/typed/kinds/{name}\n").as_bytes(),
+        );
+        assert!(
+            ran.text().starts_with(&format!("load: {verdict}: ")),
+            "{}",
+            ran.text()
+        );
+        assert_eq!(ran.status, Status::Refused as i32, "{name}");
+    }
+}
+
 /// A refused file is loaded as a load is: the box has no plan then.
 #[test]
 fn a_refused_file() {
