@@ -212,13 +212,20 @@ fn blank_or_not(blank: &Blank) -> String {
             format!("blank: no: the box is not blank: {own}")
         }
         Blank::No { held, .. } => {
-            let plan = Plan::of(held);
-            let (devices, links) = (plan.devices.len(), plan.links.len());
-            let (paths, entries) = (plan.paths.len(), plan.entries.len());
-            let print = fingerprint(held);
-            format!("blank: no: the box is not blank: a plan is in it, fingerprint {print} (devices {devices}, links {links}, paths {paths}, entries {entries})")
+            let (print, counts) = (fingerprint(held), counts(held));
+            format!(
+                "blank: no: the box is not blank: a plan is in it, fingerprint {print} ({counts})"
+            )
         }
     }
+}
+
+/// Of a plan that was written out, as a verdict says them.
+fn counts(held: &[u8]) -> String {
+    let plan = Plan::of(held);
+    let (devices, links) = (plan.devices.len(), plan.links.len());
+    let (paths, entries) = (plan.paths.len(), plan.entries.len());
+    format!("devices {devices}, links {links}, paths {paths}, entries {entries}")
 }
 
 fn held_or_not(holds: &Holds) -> String {

@@ -79,11 +79,12 @@ fn command(words: &[&[u8]]) -> Typed {
     }
 }
 
-/// A command: its name, the words that follow it, and the form as a person writes it.
+/// A command: its name, the numbers that follow it, and the form as a person writes it, with what it says.
 struct Form {
     word: &'static str,
     numbers: &'static [Number],
     form: &'static str,
+    says: &'static str,
 }
 
 /// What a number may be for the box to take it, and the greatest that a script can say.
@@ -112,27 +113,106 @@ const RECORDS: Number = number(0, BUFFER as u32, BUFFER as u32);
 const WRITTEN: Number = number(0, ROOM as u32, ROOM as u32);
 
 const FORMS: [Form; 14] = [
-    form("load", &[], "load HEX (a plan file in lowercase hex, - for the empty one), or load FILE"),
-    form("clear", &[], "clear"),
-    form("tc", &[SIXTY_FOUR, LONG, RECORDS], "tc BYTE CLOCK BUF (a time-code, and the size of the record buffer)"),
-    form("req", &[SIXTY_FOUR, SIXTY_FOUR, KIND, LENGTH], "req I T K L (a request of initiator I to target T, kind K 0 read or 1 write, L data bytes)"),
-    form("rep", &[SIXTY_FOUR, SHORT, BYTE], "rep I NUM STATUS (a reply to transaction NUM of initiator I)"),
-    form("clk", &[LONG], "clk T (a clock reading)"),
-    form("out", &[WRITTEN], "out ROOM (the plan written out into ROOM bytes)"),
-    form("wd", &[], "wd"),
-    form("setwd", &[LONG; 5], "setwd LAST SEEN REPORTED LEAST GREATEST"),
-    form("sheet", &[ROUTERS, RATE, LENGTH, LATENCY, LATENCY, LATENCY, LATENCY], "sheet R S D A DD F G (R routers, S Mbit/s, D data bytes, latencies A DD F G in ns)"),
-    form("sheet2", &[ROUTERS, ROUTERS, RATE, LENGTH, LATENCY, LATENCY, LATENCY, LATENCY], "sheet2 RC RR S D A DD F G (RC routers on the command's way, RR on the reply's, then as for sheet)"),
-    form("next", &[SIXTY_FOUR, SIXTY_FOUR, LENGTH, SIXTY_FOUR], "next I T D SLOT (the next turn of initiator I to target T with D data bytes, after SLOT)"),
-    form("blank", &[], "blank"),
-    form("holds", &[], "holds HEX (a plan file in lowercase hex, - for the empty one), or holds FILE"),
+    form("load", &[], "load HEX or load FILE", PLAN),
+    form("clear", &[], "clear", ""),
+    form(
+        "tc",
+        &[SIXTY_FOUR, LONG, RECORDS],
+        "tc BYTE CLOCK BUF",
+        "a time-code, and the size of the record buffer",
+    ),
+    form(
+        "req",
+        &[SIXTY_FOUR, SIXTY_FOUR, KIND, LENGTH],
+        "req I T K L",
+        "a request of initiator I to target T, kind K 0 read or 1 write, L data bytes",
+    ),
+    form(
+        "rep",
+        &[SIXTY_FOUR, SHORT, BYTE],
+        "rep I NUM STATUS",
+        "a reply to transaction NUM of initiator I",
+    ),
+    form("clk", &[LONG], "clk T", "a clock reading"),
+    form(
+        "out",
+        &[WRITTEN],
+        "out ROOM",
+        "the plan written out into ROOM bytes",
+    ),
+    form("wd", &[], "wd", ""),
+    form(
+        "setwd",
+        &[LONG; 5],
+        "setwd LAST SEEN REPORTED LEAST GREATEST",
+        "",
+    ),
+    form(
+        "sheet",
+        &[ROUTERS, RATE, LENGTH, LATENCY, LATENCY, LATENCY, LATENCY],
+        "sheet R S D A DD F G",
+        "R routers, S Mbit/s, D data bytes, latencies A DD F G in ns",
+    ),
+    form(
+        "sheet2",
+        &[
+            ROUTERS, ROUTERS, RATE, LENGTH, LATENCY, LATENCY, LATENCY, LATENCY,
+        ],
+        "sheet2 RC RR S D A DD F G",
+        "RC routers on the command's way, RR on the reply's, then as for sheet",
+    ),
+    form(
+        "next",
+        &[SIXTY_FOUR, SIXTY_FOUR, LENGTH, SIXTY_FOUR],
+        "next I T D SLOT",
+        "the next turn of initiator I to target T with D data bytes, after SLOT",
+    ),
+    form("blank", &[], "blank", ""),
+    form("holds", &[], "holds HEX or holds FILE", PLAN),
 ];
 
-const fn form(word: &'static str, numbers: &'static [Number], form: &'static str) -> Form {
+const PLAN: &str = "a plan file in lowercase hex, - for the empty one; or a plan file or its text";
+
+const fn form(
+    word: &'static str,
+    numbers: &'static [Number],
+    form: &'static str,
+    says: &'static str,
+) -> Form {
     Form {
         word,
         numbers,
         form,
+        says,
+    }
+}
+
+impl Form {
+    /// How many words follow.
+    fn count(&self) -> usize {
+        if purpose(self.word.as_bytes()).is_some() {
+            return 1;
+        }
+        self.numbers.len()
+    }
+
+    /// The form, and what it says.
+    fn whole(&self) -> String {
+        match (self.form, self.says) {
+            (form, "") => form.to_string(),
+            (form, says) => format!("{form} ({says})"),
+        }
+    }
+
+    /// What is wrong with so many words as should follow.
+    fn wrong(&self, words: &[&str]) -> Vec<String> {
+        if self.numbers.is_empty() {
+            return words.iter().map(|word| no_hex(word)).collect();
+        }
+        let numbers = words.iter().zip(self.numbers);
+        let wrong = numbers
+            .filter_map(|(word, number)| value(word, number.least, number.most, number.room).err());
+        wrong.collect()
     }
 }
 
@@ -141,30 +221,21 @@ fn why(words: &[&str]) -> Vec<String> {
     let (first, rest) = words.split_first().unwrap_or((&"", &[]));
     let Some(form) = FORMS.iter().find(|form| form.word == *first) else {
         let names: Vec<_> = FORMS.iter().map(|form| form.word).collect();
-        let first = shortened(first, 60);
         return vec![format!(
-            "'{first}' begins no command; a command begins with one of: {}",
+            "'{}' begins no command; a command begins with one of: {}",
+            shortened(first, 60),
             names.join(", ")
         )];
     };
-    let takes_plan = purpose(form.word.as_bytes()).is_some();
-    let count = if takes_plan { 1 } else { form.numbers.len() };
-    let mut why = Vec::new();
-    if rest.len() != count {
-        let (word, found) = (form.word, rest.len());
-        why.push(format!(
-            "behind '{word}' stand {found} words and should stand {count}: {}",
-            form.form
-        ));
-    } else if takes_plan {
-        why.extend(rest.first().map(|word| no_hex(word)));
+    let (found, count) = (rest.len(), form.count());
+    let mut why = if found == count {
+        form.wrong(rest)
     } else {
-        let wrong = rest
-            .iter()
-            .zip(form.numbers)
-            .filter_map(|(word, number)| value(word, number.least, number.most, number.room).err());
-        why.extend(wrong);
-    }
+        vec![format!(
+            "behind '{first}' stand {found} words and should stand {count}: {}",
+            form.whole()
+        )]
+    };
     if rest.iter().any(|word| word.starts_with('#')) {
         why.push("a comment has a line of its own, which begins with #".to_string());
     }

@@ -2,7 +2,7 @@
 
 mod common;
 
-use common::{run, COMPILE};
+use common::{run, Chance, COMPILE};
 use desk::form::{compile, in_words};
 use desk::invisible::is_invisible;
 use desk::judge::judge;
@@ -169,4 +169,59 @@ fn said_by_the_program() {
     let said = "standard input:1: node 300\n    300 is too great; right is a number from 0 to 63\nstandard input:2: node\\u{a0}1\n    'node\\u{a0}1' begins no item; an item begins with one of: node, router, link, path, entry, intervals, times, reply, name, bytes\n";
     assert_eq!((ran.text(), ran.err.as_str()), ("", said));
     assert_eq!(ran.status, Status::Complaints as i32);
+}
+
+/// Lines of words by chance: what is no item is complained of with its own line, rising, and with what is right.
+#[test]
+fn texts_by_chance() {
+    let mut chance = Chance(0x5eed_0904);
+    let words = [
+        "node",
+        "router",
+        "link",
+        "path",
+        "entry",
+        "intervals",
+        "times",
+        "reply",
+        "name",
+        "bytes",
+        "0",
+        "1",
+        "63",
+        "64",
+        "255",
+        "256",
+        "x",
+        "ff",
+        "#",
+        "ä",
+        "\u{200b}",
+        "\u{feff}",
+        "\t",
+        "\r",
+    ];
+    let (mut compiled, mut complained) = (0, 0);
+    for _ in 0..5_000 {
+        let mut text = String::new();
+        for _ in 0..chance.below(4) {
+            let line = (0..chance.below(5)).map(|_| words[chance.below(words.len())]);
+            text += &format!("{}\n", line.collect::<Vec<_>>().join(" "));
+        }
+        match compile(text.as_bytes()) {
+            Ok(_) => compiled += 1,
+            Err(complaints) => {
+                let lines: Vec<_> = complaints.iter().map(|complaint| complaint.line).collect();
+                assert!(lines.is_sorted() && lines.iter().all(|line| (1..=3).contains(line)));
+                assert!(complaints
+                    .iter()
+                    .all(|complaint| !complaint.right.is_empty()));
+                complained += 1;
+            }
+        }
+    }
+    assert!(
+        compiled > 500 && complained > 500,
+        "{compiled} {complained}"
+    );
 }

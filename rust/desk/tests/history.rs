@@ -706,3 +706,53 @@ fn wrong_words() {
     let said = "spwd-panel: no-such-file: No such file or directory (os error 2)\n";
     assert_eq!((ran.text(), ran.err.as_str(), ran.status), ("", said, 3));
 }
+
+/// Lines of words and bytes by chance: every page is well formed, and no box and no page is at a loss.
+#[test]
+fn lines_by_chance() {
+    let mut chance = Chance(0x5eed_0903);
+    let (guide, eight) = (hex("plans/guide.plan"), hex("plans/eight.plan"));
+    for _ in 0..40 {
+        let mut script = Vec::new();
+        for _ in 0..chance.below(300) {
+            let device = [0, 1, 2, 9, 10, 20, 21, 255][chance.below(8)];
+            let small = chance.below(4);
+            let line = match chance.below(60) {
+                0 => format!("load {guide}"),
+                1 => format!("load {eight}"),
+                2 => "load -".to_string(),
+                3 => "clear".to_string(),
+                4 => format!("setwd {small} {small} 0 {small} 5"),
+                5 => format!("holds {guide}"),
+                6 => "blank".to_string(),
+                7 => format!("out {}", 100 * small),
+                8 => format!("next {small} 20 1 {device}"),
+                9..12 => format!("clk {}", chance.below(5_000)),
+                12..32 => format!("tc {} {} 136", chance.below(70), chance.below(5_000)),
+                32..48 => format!("req {small} {device} {} {}", chance.below(3), 100 * small),
+                48..58 => format!("rep {small} {} {}", chance.below(5), device),
+                _ => {
+                    let size = chance.below(20);
+                    script.extend((0..size).map(|_| chance.byte()));
+                    String::new()
+                }
+            };
+            script.extend(line.bytes());
+            script.push(b'\n');
+        }
+        let mut panel = Panel::new(false);
+        let mut gathered = Gathered::new();
+        for line in script.split(|&byte| byte == b'\n') {
+            panel
+                .happen(line)
+                .into_iter()
+                .for_each(|happening| gathered.add(happening));
+        }
+        let text = page("by chance", &gathered.chart(), &Given::default());
+        let page = read(&text).unwrap_or_else(|wrong| panic!("{wrong}"));
+        inside(&page);
+        let starts = page.values("data-start").len();
+        let ends = page.values("data-late").len() + page.values("data-reply").len();
+        assert!(ends <= starts, "{ends} {starts}");
+    }
+}

@@ -164,11 +164,11 @@ fn why_a_line_is_no_command() {
         ("next 1", "behind 'next' stand 1 words and should stand 4: next I T D SLOT (the next turn of initiator I to target T with D data bytes, after SLOT)".into()),
         ("next 1 2 3 256", "256 is too great; right is a number from 0 to 63".into()),
         ("blank 1", "behind 'blank' stand 1 words and should stand 0: blank".into()),
-        ("load", "behind 'load' stand 0 words and should stand 1: load HEX (a plan file in lowercase hex, - for the empty one), or load FILE".into()),
-        ("load 00 00", "behind 'load' stand 2 words and should stand 1: load HEX (a plan file in lowercase hex, - for the empty one), or load FILE".into()),
+        ("load", "behind 'load' stand 0 words and should stand 1: load HEX or load FILE (a plan file in lowercase hex, - for the empty one; or a plan file or its text)".into()),
+        ("load 00 00", "behind 'load' stand 2 words and should stand 1: load HEX or load FILE (a plan file in lowercase hex, - for the empty one; or a plan file or its text)".into()),
         ("load 000", "'000' has 3 hex digits; right are two for each byte; a file of this name is ./000".into()),
         ("load 0A", "'0A' has digits of upper case; right are 0 to 9 and a to f; a file of this name is ./0A".into()),
-        ("holds", "behind 'holds' stand 0 words and should stand 1: holds HEX (a plan file in lowercase hex, - for the empty one), or holds FILE".into()),
+        ("holds", "behind 'holds' stand 0 words and should stand 1: holds HEX or holds FILE (a plan file in lowercase hex, - for the empty one; or a plan file or its text)".into()),
         ("holds BAD", "'BAD' has 3 hex digits; right are two for each byte; a file of this name is ./BAD".into()),
     ] {
         assert_eq!(typed(line.as_bytes()), Typed::Wrong(vec![why]), "{line}");
@@ -274,7 +274,7 @@ fn plans_from_files() {
         typed(b"load ./cafe"),
         Typed::File(Use::Load, "./cafe".into())
     );
-    assert_eq!(typed(b"holds  a b "), Typed::Wrong(vec!["behind 'holds' stand 2 words and should stand 1: holds HEX (a plan file in lowercase hex, - for the empty one), or holds FILE".into()]));
+    assert_eq!(typed(b"holds  a b "), Typed::Wrong(vec!["behind 'holds' stand 2 words and should stand 1: holds HEX or holds FILE (a plan file in lowercase hex, - for the empty one; or a plan file or its text)".into()]));
     assert_eq!(
         typed(b"holds  a  z "),
         Typed::File(Use::Holds, "a  z".into())
