@@ -58,8 +58,8 @@ impl Times {
             return None;
         };
         let mut numbers = [u32::from(u16::from_be_bytes([*high, *low])); NUMBERS];
-        for (number, bytes) in numbers[1..].iter_mut().zip(times.as_chunks().0) {
-            *number = u32::from_be_bytes(*bytes);
+        for (number, bytes) in numbers[1..].iter_mut().zip(times.chunks_exact(4)) {
+            *number = u32::from_be_bytes(bytes.try_into().ok()?);
         }
         Some(Self(numbers))
     }

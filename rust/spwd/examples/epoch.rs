@@ -29,7 +29,7 @@ fn main() -> ExitCode {
         Some(name) => match std::fs::read(&name) {
             Ok(file) => file,
             Err(error) => {
-                eprintln!("{}: {error}", name.display());
+                eprintln!("{}: {error}", name.to_string_lossy());
                 return ExitCode::from(2);
             }
         },

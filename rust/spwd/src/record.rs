@@ -77,20 +77,20 @@ impl Record {
 
 /// The first `count` records of a buffer, as [`Spwd::time_code`](crate::Spwd::time_code) left it; fewer if it holds fewer.
 pub fn records(buffer: &[u8], count: u8) -> Records<'_> {
-    let (records, _) = buffer.as_chunks();
-    let count = records.len().min(count.into());
-    Records(records[..count].iter())
+    let count = (buffer.len() / RECORD_SIZE).min(count.into());
+    Records(buffer[..count * RECORD_SIZE].chunks_exact(RECORD_SIZE))
 }
 
 /// Goes through the records of a buffer; [`records`] gives it.
 #[derive(Clone, Debug)]
-pub struct Records<'a>(slice::Iter<'a, [u8; RECORD_SIZE]>);
+pub struct Records<'a>(slice::ChunksExact<'a, u8>);
 
 impl Iterator for Records<'_> {
     type Item = Record;
 
     fn next(&mut self) -> Option<Record> {
-        self.0.next().copied().map(Record::from_bytes)
+        let bytes = self.0.next()?.try_into().ok()?;
+        Some(Record::from_bytes(bytes))
     }
 
     fn size_hint(&self) -> (usize, Option<usize>) {
