@@ -187,7 +187,7 @@ fn bytes(word: &[u8]) -> Option<Vec<u8>> {
     if word == b"-" {
         return Some(Vec::new());
     }
-    if word.is_empty() || word.len() > 2 * FILE || !word.len().is_multiple_of(2) {
+    if word.is_empty() || word.len() > 2 * FILE || word.len() % 2 != 0 {
         return None;
     }
     let pairs = word.chunks(2);

@@ -5,6 +5,7 @@ use crate::few;
 use crate::plan::{Plan, Routers, Shape, Times, Walk, Way, INITIATORS, NUMBERS, SLOTS, SPANS};
 use crate::sheet::{in_range, Latencies};
 use crate::verdict::{Fault, Verdict};
+use core::array::from_fn;
 
 pub(crate) const FILE: usize = 16_384;
 const PATHS: u8 = 128;
@@ -412,11 +413,12 @@ impl Judge<'_> {
         let Some((&rate, times)) = content.split_first_chunk() else {
             return Err(Fault::Length);
         };
-        let (&[a, d, f, g, slot_length], []) = times.as_chunks() else {
+        let Ok(times) = <&[u8; 20]>::try_from(times) else {
             return Err(Fault::Length);
         };
         let rate = u16::from_be_bytes(rate);
-        let [a, d, f, g, slot_length] = [a, d, f, g, slot_length].map(u32::from_be_bytes);
+        let four = |place| from_fn(|byte| times[4 * place + byte]);
+        let [a, d, f, g, slot_length] = from_fn(|place| u32::from_be_bytes(four(place)));
         if !in_range(rate, &[a, d, f, g, slot_length]) {
             return Err(Fault::Range);
         }
@@ -454,7 +456,7 @@ impl Judge<'_> {
         }
         let slot = self.clashing.trailing_zeros() as u8;
         let initiators = self.plan.initiators();
-        let links: [u64; INITIATORS] = core::array::from_fn(|row| self.links_in(row, slot));
+        let links: [u64; INITIATORS] = from_fn(|row| self.links_in(row, slot));
         for (one, &smaller) in initiators.iter().enumerate() {
             for (other, &greater) in initiators.iter().enumerate().skip(one + 1) {
                 let common = links[one] & links[other];

@@ -72,7 +72,7 @@ impl Request {
 
 /// The records of one time-code.
 pub(crate) struct Records<'a> {
-    room: &'a mut [[u8; RECORD]; RECORDS],
+    room: &'a mut [u8; RECORD * RECORDS],
     count: u8,
     value: u8,
 }
@@ -81,8 +81,7 @@ impl<'a> Records<'a> {
     /// None if the buffer has under 136 bytes.
     #[inline(always)]
     pub fn new(buffer: &'a mut [u8], value: u8) -> Option<Self> {
-        let (records, _) = buffer.as_chunks_mut();
-        let room = records.first_chunk_mut()?;
+        let room = buffer.first_chunk_mut()?;
         Some(Self {
             room,
             count: 0,
@@ -98,9 +97,10 @@ impl<'a> Records<'a> {
 
     #[inline(always)]
     fn write(&mut self, kind: u8, transaction: Transaction) {
-        if let Some(place) = self.room.get_mut(usize::from(self.count)) {
+        let start = RECORD * usize::from(self.count);
+        if let Some(place) = self.room.get_mut(start..start + RECORD) {
             let record = u64::from(kind) << 56 | u64::from(self.value) << 32 | transaction.0;
-            *place = record.to_be_bytes();
+            place.copy_from_slice(&record.to_be_bytes());
             self.count += 1;
         }
     }

@@ -260,13 +260,13 @@ impl Replay {
         if digits == b"-" {
             return Some(());
         }
-        let (pairs, rest) = digits.as_chunks::<2>();
-        if pairs.is_empty() || pairs.len() > FILE || !rest.is_empty() {
+        let pairs = digits.chunks_exact(2);
+        if !(1..=FILE).contains(&pairs.len()) || !pairs.remainder().is_empty() {
             return None;
         }
         let mut wrong = 0;
-        self.file.extend(pairs.iter().map(|&[high, low]| {
-            let (high, low) = (DIGITS[usize::from(high)], DIGITS[usize::from(low)]);
+        self.file.extend(pairs.map(|pair| {
+            let (high, low) = (DIGITS[usize::from(pair[0])], DIGITS[usize::from(pair[1])]);
             wrong |= high | low;
             high << 4 | low
         }));

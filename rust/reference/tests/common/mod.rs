@@ -298,7 +298,8 @@ impl Driver {
         };
         let (used, unused) = records.split_at(8 * usize::from(count));
         assert!(unused.iter().all(|&byte| byte == 0xa5));
-        used.as_chunks().0.to_vec()
+        let records = used.chunks_exact(8);
+        records.map(|record| record.try_into().unwrap()).collect()
     }
 
     pub fn written_out(&self) -> Vec<u8> {

@@ -325,7 +325,7 @@ pub fn time(
     latencies: [u128; 4],
 ) -> u128 {
     let mut padded = reply;
-    while !padded.is_multiple_of(4) {
+    while padded % 4 != 0 {
         padded += 1;
     }
     let [a, d, f, g] = latencies;
@@ -338,7 +338,7 @@ pub fn time(
 }
 
 fn rounded_up(dividend: u128, divisor: u128) -> u128 {
-    dividend / divisor + u128::from(!dividend.is_multiple_of(divisor))
+    dividend / divisor + u128::from(dividend % divisor != 0)
 }
 
 /// Bytes as one number, the high byte first.
