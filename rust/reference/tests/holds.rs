@@ -23,6 +23,8 @@ fn rich() -> Vec<Vec<u8>> {
         path(2, 3, &[1, 4, 2]),
         entry(1, 5, 2, &[3, 4]),
         entry(1, 30, 1, &[4]),
+        entry(1, 40, 1, &[3]),
+        entry(1, 44, 1, &[3]),
         entry(2, 60, 1, &[4]),
         times(200, [5_000, 5_001, 5_002, 5_003, 39_450]),
         reply(1, 3, &[2, 4, 6, 21]),
@@ -50,6 +52,7 @@ fn others() -> Vec<(&'static str, Vec<u8>)> {
     let six = times(200, [5_000, 5_001, 5_002, 5_003, 39_450]);
     let six_with = |rate, nanoseconds| with(&six, &times(rate, nanoseconds));
     let (two_targets, at_30) = (entry(1, 5, 2, &[3, 4]), entry(1, 30, 1, &[4]));
+    let at_40 = entry(1, 40, 1, &[3]);
     let (way, home) = (path(2, 3, &[1, 4, 2]), reply(1, 3, &[2, 4, 6, 21]));
     vec![
         ("a kind", with(&device(5, 0), &device(5, 1))),
@@ -68,6 +71,8 @@ fn others() -> Vec<(&'static str, Vec<u8>)> {
         ("a slot", with(&at_30, &entry(1, 31, 1, &[4]))),
         ("a span", with(&at_30, &entry(1, 30, 2, &[4]))),
         ("a target", with(&at_30, &entry(1, 30, 1, &[3]))),
+        // Both targets have other entries of this span.
+        ("one target of many", with(&at_40, &entry(1, 40, 1, &[4]))),
         ("no target", with(&two_targets, &entry(1, 5, 2, &[3]))),
         ("no entry", without(&at_30)),
         ("the least interval", with(&five, &intervals(91, 110))),
