@@ -7,6 +7,7 @@ use crate::layout::{hex, shortened};
 use crate::overlaps::{clashes, members, overruns, slots_in_words, Clash, Overrun};
 use crate::plan::Plan;
 use crate::source::Source;
+use crate::taken::hint;
 use crate::words;
 use spwd::{Fault, Spwd, Verdict};
 
@@ -76,9 +77,14 @@ impl<'a> Sifted<'a> {
     }
 }
 
+/// Whether more is looked for in a file that is refused: not in one that is too long, or looks like something else.
+pub fn is_plan(source: &Source, first: &Fault) -> bool {
+    first.number() != Verdict::FILE_TOO_LONG && hint(source).is_none()
+}
+
 /// All faults behind the first, which the verdict names; nothing where it is the only one.
 pub fn further(source: &Source, sifted: &Sifted, first: &Fault) -> Vec<String> {
-    if first.number() == Verdict::FILE_TOO_LONG {
+    if !is_plan(source, first) {
         return Vec::new();
     }
     let plan = sifted.plan();

@@ -3,7 +3,7 @@
 use crate::clash::{clash, overrun};
 use crate::fault::field_in_words;
 use crate::fingerprint::fingerprint;
-use crate::further::{further, sifted, Sifted};
+use crate::further::{further, is_plan, sifted, Sifted};
 use crate::grid::grid;
 use crate::judge::{in_words, judge, Judged};
 use crate::layout::wrapped;
@@ -35,19 +35,21 @@ pub fn page(source: &Source) -> (Vec<String>, bool) {
     (lines, judged.verdict.is_accepted())
 }
 
-/// What a refusal is about, what else is at fault, and the table of the entries that are not; of what looks like no plan file the first alone.
+/// What a refusal is about, what else is at fault, and the table of the entries that are not.
 fn refused(source: &Source, fault: &Fault) -> Vec<Vec<String>> {
-    if hint(source).is_some() {
-        return vec![behind(source, fault)];
-    }
     let sifted = sifted(source);
     let further = further(source, &sifted, fault);
-    vec![behind(source, fault), further, table(&sifted, fault)]
+    let table = if is_plan(source, fault) {
+        table(&sifted)
+    } else {
+        Vec::new()
+    };
+    vec![behind(source, fault), further, table]
 }
 
-fn table(sifted: &Sifted, fault: &Fault) -> Vec<String> {
+fn table(sifted: &Sifted) -> Vec<String> {
     let plan = sifted.plan();
-    if plan.entries.is_empty() || fault.number() == Verdict::FILE_TOO_LONG {
+    if plan.entries.is_empty() {
         return Vec::new();
     }
     let mut lines = Vec::new();

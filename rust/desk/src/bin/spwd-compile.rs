@@ -171,10 +171,7 @@ fn accepted(source: &Source, judged: &Judged) -> String {
 fn refused(source: &Source, fault: &Fault) -> Vec<String> {
     let mut lines = in_words(&Verdict::Refused(*fault));
     lines[0] = format!("{}: {}", source.name, lines[0]);
-    if let Some(hint) = hint(source) {
-        lines.push(format!("    {hint}"));
-        return lines;
-    }
+    lines.extend(hint(source).map(|hint| format!("    {hint}")));
     lines.extend(behind(source, fault));
     lines.extend(further(source, &sifted(source), fault));
     lines
