@@ -98,11 +98,6 @@ impl Event {
         match *self {
             Self::Reply(lane) => Track::Bar(lane),
             Self::Refused {
-                lane: Some(lane),
-                what: What::Reply,
-                ..
-            } => Track::Bar(lane),
-            Self::Refused {
                 lane: Some(lane), ..
             } => Track::Below(lane),
             Self::Reported | Self::Refused { lane: None, .. } => Track::Box,

@@ -19,12 +19,12 @@ const WIDE: f64 = (PAPER - LABEL - 1.0) / ROW as f64;
 const HEAD: f64 = 50.0;
 const BOX: f64 = 16.0;
 const LANE: f64 = 36.0;
-/// Where things stand in a lane: a bar, its middle and what is written above it, requests that wait and those that are refused.
+/// Where things stand in a lane: a bar, its middle and what is written above it, requests that wait, and what is refused.
 const BAR: (f64, f64) = (10.0, 18.0);
 const MIDDLE: f64 = (BAR.0 + BAR.1) / 2.0;
 const ABOVE: f64 = 5.0;
-const WAITING: f64 = 21.0;
-const REFUSED: f64 = 30.2;
+const WAITING: f64 = 20.5;
+const REFUSED: f64 = 30.6;
 
 /// All rows of a section; none where there is no plan, and so no lane.
 pub fn rows(section: &Section) -> Vec<Element> {
@@ -333,8 +333,7 @@ impl<'a> Row<'a> {
                 number,
                 count,
             } => {
-                let reply = *what == What::Reply;
-                let y = self.lane(*lane) + if reply { MIDDLE } else { REFUSED };
+                let y = self.lane(*lane) + REFUSED;
                 Some(refusal(x, y, *what, *number, *count))
             }
             _ => None,

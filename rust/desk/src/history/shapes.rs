@@ -24,7 +24,7 @@ pub fn titled(mark: Element, title: impl ToString) -> Element {
 }
 
 /// How far apart the requests of a line stand.
-pub const PITCH: f64 = 5.0;
+pub const PITCH: f64 = 4.8;
 
 /// A request that waits: a square, black when it joins.
 pub fn waiting(x: f64, y: f64, joins: bool) -> Element {
