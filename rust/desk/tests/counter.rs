@@ -796,3 +796,30 @@ fn plans_by_chance() {
         assert_eq!(holds(&image, &judged.held), Answer { line, yes: true });
     }
 }
+
+/// Memory by chance: all of it, or some bytes of a box at work. Every question is answered, and never with a yes that the box did not give.
+#[test]
+fn memory_by_chance() {
+    let mut chance = Chance(0x5eed_0023);
+    let file = bytes("plans/guide-times.plan");
+    let pairs = pairs(&file);
+    let mut spwd = under("guide-times");
+    for turn in 0..200 {
+        act(&mut chance, &mut spwd, &pairs, turn);
+        let mut bytes = *spwd.image().bytes();
+        if turn % 4 == 0 {
+            bytes.fill_with(|| chance.byte());
+        }
+        for _ in 0..chance.below(4) {
+            bytes[chance.below(IMAGE_SIZE)] = chance.byte();
+        }
+        let image = Image::new(bytes);
+        let holds_it = image.holds(&file, &mut spwd::Plan::new());
+        let answer = holds(&image, &file);
+        assert!(!answer.yes || holds_it, "{}", answer.line);
+        assert_eq!(blank(&image).yes, image.is_blank());
+        if let Ok(written) = read(&image) {
+            assert!(image.holds(&written, &mut spwd::Plan::new()), "{turn}");
+        }
+    }
+}
