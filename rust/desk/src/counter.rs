@@ -83,7 +83,7 @@ pub fn holds(image: &Image, file: &[u8]) -> Answer {
         Found::NoPlan => no(format!("NO PLAN: {YET}: {}", nothing_but(image))),
         Found::Strange => no(format!("DAMAGED: {STRANGE}; {}", first_number(image))),
         Found::Plan(_, Err(wrong)) => no(format!("DAMAGED: {}", strange_running(image, &wrong))),
-        Found::Plan(..) if holds => yes(format!("HOLDS {given}")),
+        Found::Plan(_, Ok(sides)) if holds => yes(format!("HOLDS {given}{}", since(&sides))),
         Found::Plan(held, Ok(_)) => {
             let first = difference(&Plan::of(&held), &Plan::of(&judged.held));
             let first = first.unwrap_or_else(|| "none was found".to_string());
@@ -176,6 +176,14 @@ fn in_words(sides: &[Side]) -> String {
     let waiting = list(waiting.collect(), "waiting", "nothing waits");
     let live = list(live.collect(), "live", "nothing is live");
     format!("{waiting}; {live}")
+}
+
+/// What has joined since the load, if anything has: a box that is handed out has nothing.
+fn since(sides: &[Side]) -> String {
+    if sides.is_empty() {
+        return String::new();
+    }
+    format!("; {}", in_words(sides))
 }
 
 fn refused(verdict: &Verdict) -> String {

@@ -249,7 +249,7 @@ fn no_hex(word: &str) -> String {
         _ if size > most => {
             return format!("these are {size} hex digits; right are at most {most}")
         }
-        _ if size.is_multiple_of(2) => {
+        _ if size % 2 == 0 => {
             format!("'{name}' has digits of upper case; right are 0 to 9 and a to f")
         }
         _ => format!("'{name}' has {size} hex digits; right are two for each byte"),

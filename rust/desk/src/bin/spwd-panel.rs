@@ -1,7 +1,7 @@
 //! The script that `replay` reads, played on the box: what happens, in words.
 #![forbid(unsafe_code)]
 
-use desk::arguments::{given, one_file, own, version, Given, Options};
+use desk::arguments::{given, one_file, version, Given, Options};
 use desk::happening::Happening;
 use desk::history::gather::Gathered;
 use desk::history::page::page;
@@ -78,29 +78,12 @@ fn see(wrong: &str) -> String {
 }
 
 fn run(options: &Options, others: Vec<OsString>) -> Result<Status, String> {
-    let page = given_page(options).map_err(|wrong| see(&wrong))?;
+    let page = head::Given::among(options, "--card").map_err(|wrong| see(&wrong))?;
     let card = options.iter().any(|(option, _)| *option == "--card");
     let script = Input::of(one_file(others).map_err(|wrong| see(&wrong))?);
-    match (page, card) {
-        (Some(_), true) => Err(see("--page and --card exclude each other")),
-        (Some(given), false) => draw(&given, &script),
-        (None, card) => play(card, &script),
-    }
-}
-
-/// The words of `--title` and `--date`, if a page is asked for.
-fn given_page(options: &Options) -> Result<Option<head::Given>, String> {
-    let word = |name| -> Result<Option<String>, String> {
-        let words = own(options, name)?.and_then(<[OsString]>::first);
-        Ok(words.map(|word| word.to_string_lossy().into_owned()))
-    };
-    let (title, date) = (word("--title")?, word("--date")?);
-    match own(options, "--page")? {
-        Some(_) => Ok(Some(head::Given { title, date })),
-        None if title.is_some() || date.is_some() => {
-            Err("--title and --date go with --page".to_string())
-        }
-        None => Ok(None),
+    match page {
+        Some(given) => draw(&given, &script),
+        None => play(card, &script),
     }
 }
 

@@ -80,7 +80,7 @@ fn see(wrong: &str) -> String {
 fn run(options: &Options, mut others: Vec<OsString>) -> Result<Status, String> {
     let has = |name| options.iter().any(|(option, _)| *option == name);
     let form = Form::of(has("--text"), has("--bytes")).map_err(see)?;
-    let page = given_page(options).map_err(|wrong| see(&wrong))?;
+    let page = html::head::Given::among(options, "--next").map_err(|wrong| see(&wrong))?;
     let question = question(options, &mut others).map_err(|wrong| see(&wrong))?;
     let show = |source: &Source| match &page {
         Some(given) => show_page(source, given),
@@ -93,23 +93,6 @@ fn run(options: &Options, mut others: Vec<OsString>) -> Result<Status, String> {
             say(&complaints);
             Ok(Status::Complaints)
         }
-    }
-}
-
-/// The words of `--title` and `--date`, if a page is asked for.
-fn given_page(options: &Options) -> Result<Option<html::head::Given>, String> {
-    let word = |name| -> Result<Option<String>, String> {
-        let words = own(options, name)?.and_then(<[OsString]>::first);
-        Ok(words.map(|word| word.to_string_lossy().into_owned()))
-    };
-    let (title, date) = (word("--title")?, word("--date")?);
-    match (own(options, "--page")?, own(options, "--next")?) {
-        (Some(_), Some(_)) => Err("--page and --next exclude each other".to_string()),
-        (Some(_), None) => Ok(Some(html::head::Given { title, date })),
-        _ if title.is_some() || date.is_some() => {
-            Err("--title and --date go with --page".to_string())
-        }
-        _ => Ok(None),
     }
 }
 

@@ -1,5 +1,6 @@
 //! The head of a page: its title, which plan it is, and the verdict; of a refused plan why, with the line at fault.
 
+use crate::arguments::{own, Options};
 use crate::fields::Timing;
 use crate::fingerprint::fingerprint;
 use crate::further::{further, sifted};
@@ -11,6 +12,7 @@ use crate::plan::Plan;
 use crate::source::Source;
 use crate::taken::hint;
 use spwd::{Fault, Verdict};
+use std::ffi::OsString;
 
 /// What the caller says of the page.
 #[derive(Clone, Debug, Default, PartialEq, Eq)]
@@ -20,6 +22,23 @@ pub struct Given {
 }
 
 impl Given {
+    /// The words of `--title` and `--date`, if `--page` stands among the options; an option that asks for something else stands not beside it.
+    pub fn among(options: &Options, other: &str) -> Result<Option<Self>, String> {
+        let word = |name| -> Result<Option<String>, String> {
+            let words = own(options, name)?.and_then(<[OsString]>::first);
+            Ok(words.map(|word| word.to_string_lossy().into_owned()))
+        };
+        let (title, date) = (word("--title")?, word("--date")?);
+        match (own(options, "--page")?, own(options, other)?) {
+            (Some(_), Some(_)) => Err(format!("--page and {other} exclude each other")),
+            (Some(_), None) => Ok(Some(Self { title, date })),
+            _ if title.is_some() || date.is_some() => {
+                Err("--title and --date go with --page".to_string())
+            }
+            _ => Ok(None),
+        }
+    }
+
     /// The title, or else the file's name.
     pub fn title<'a>(&'a self, source: &'a Source) -> &'a str {
         self.title.as_deref().unwrap_or(&source.name)
