@@ -269,8 +269,18 @@ fn what_can_be_read() {
             "No paths.",
         ]
     );
-    let page = drawn(&Source::file("empty".to_string(), Vec::new()));
-    assert_eq!(page.id("verdict").unwrap().get("data-verdict"), Some("12"));
+    for (file, number) in [(&b""[..], "12"), (b"node 1\nnode 2\n", "2")] {
+        let page = drawn(&Source::file("no plan".to_string(), file.to_vec()));
+        assert_eq!(
+            page.id("verdict").unwrap().get("data-verdict"),
+            Some(number)
+        );
+        assert_eq!(
+            page.named("p")[0].text(),
+            "Nothing is drawn of what looks like no plan."
+        );
+        assert!(page.id("further").is_none());
+    }
 }
 
 /// Damaged files give pages that are well formed, and no panic.

@@ -15,6 +15,7 @@ use crate::html::turns::turns;
 use crate::judge::{judge, Judged};
 use crate::plan::Plan;
 use crate::source::Source;
+use crate::taken::hint;
 use spwd::{Fault, Verdict};
 
 /// The text of a page, and whether the plan was accepted.
@@ -53,6 +54,10 @@ fn asked(plan: &Plan, judged: &Judged) -> Option<Element> {
 fn readable<'a>(source: &'a Source, judged: &'a Judged) -> (Plan<'a>, Option<&'static str>) {
     match judged.verdict {
         Verdict::Accepted(_) => (Plan::of(&judged.held), None),
+        _ if hint(source).is_some() => (
+            Plan::default(),
+            Some("Nothing is drawn of what looks like no plan."),
+        ),
         Verdict::Refused(Fault::File {
             number: Verdict::FILE_TOO_LONG,
             ..
