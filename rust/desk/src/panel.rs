@@ -101,38 +101,46 @@ impl Panel {
                 target,
                 kind,
                 length,
-            } => self.request(
-                Wanted {
+            } => {
+                let wanted = Wanted {
                     initiator,
                     target,
                     length,
-                },
-                kind,
-            ),
+                };
+                self.request(wanted, kind)
+            }
             Command::Reply {
                 initiator,
                 transaction,
                 status,
-            } => Happening::Reply {
-                initiator,
-                transaction,
-                answer: self.desk.reply(initiator, transaction, status),
-            },
-            Command::Reading { clock } => Happening::Reading {
-                clock,
-                answer: self.desk.reading(clock),
-            },
+            } => self.reply(initiator, transaction, status),
+            Command::Reading { clock } => self.reading(clock),
             Command::Out { room } => Happening::Out(self.desk.write_out(&mut vec![0; room])),
             Command::Watchdog => Happening::Watchdog(self.desk.watchdog()),
-            Command::SetWatchdog(five) => {
-                self.desk.set_watchdog(Watchdog::from(five));
-                Happening::SetWatchdog(self.desk.watchdog())
-            }
+            Command::SetWatchdog(five) => self.set_watchdog(Watchdog::from(five)),
             Command::Sheet { asked, length } => Happening::Sheet { asked, length },
             Command::Next(question) => self.next(question),
             Command::Blank => Happening::Blank(self.blank()),
             Command::Holds(file) => self.holds(&file),
         }
+    }
+
+    fn reply(&mut self, initiator: u8, transaction: u16, status: u8) -> Happening {
+        Happening::Reply {
+            initiator,
+            transaction,
+            answer: self.desk.reply(initiator, transaction, status),
+        }
+    }
+
+    fn reading(&mut self, clock: u32) -> Happening {
+        let answer = self.desk.reading(clock);
+        Happening::Reading { clock, answer }
+    }
+
+    fn set_watchdog(&mut self, five: Watchdog) -> Happening {
+        self.desk.set_watchdog(five);
+        Happening::SetWatchdog(self.desk.watchdog())
     }
 
     fn load(&mut self, file: &[u8], names: Names, from: Option<String>) -> Happening {

@@ -1,7 +1,7 @@
 //! A chart gathered from what happened, line by line: records and answers of the box, and nothing else.
 
 use crate::fingerprint::fingerprint;
-use crate::happening::{Happening, Load};
+use crate::happening::{Happening, Load, Wrong};
 use crate::history::chart::{
     Bar, Chart, Column, Counts, Cut, End, Event, Joined, Said, Section, TimeCode, What, COLUMNS,
     SAID, SECTIONS, WRONG,
@@ -53,50 +53,60 @@ impl Gathered {
     pub fn add(&mut self, happening: Happening) {
         let said = listed(&happening);
         match happening {
-            Happening::Wrong(wrong) if self.chart.wrong.len() < WRONG => {
-                self.chart.wrong.push(wrong);
-            }
-            Happening::Wrong(_) => self.chart.more_wrong += 1,
+            Happening::Wrong(wrong) => self.wrong(wrong),
             Happening::Load(load) => self.load(load),
             Happening::Clear => self.cut(Section {
                 cut: Cut::Clear,
                 ..Section::default()
             }),
+            event => self.took(event),
+        }
+        self.say(said);
+    }
+
+    /// An event that the box took or refused. What was only asked of it is not drawn.
+    fn took(&mut self, event: Happening) {
+        let refused = match event {
             Happening::TimeCode {
                 byte,
                 clock,
                 answer,
             } => match answer {
-                Ok(records) => self.time_code(byte % 64, clock, &records),
-                Err(refusal) => self.refused(None, What::TimeCode, refusal.number()),
+                Ok(records) => return self.time_code(byte % 64, clock, &records),
+                Err(refusal) => (None, What::TimeCode, refusal),
             },
             Happening::Request {
                 wanted,
                 kind,
                 answer,
             } => match answer {
-                Ok(joined) => self.request(&wanted, kind, joined.transaction),
-                Err(refused) => {
-                    let number = refused.refusal.number();
-                    self.refused(Some(wanted.initiator), What::Request, number);
-                }
+                Ok(joined) => return self.request(&wanted, kind, joined.transaction),
+                Err(refused) => (Some(wanted.initiator), What::Request, refused.refusal),
             },
             Happening::Reply {
                 initiator,
                 transaction,
                 answer,
             } => match answer {
-                Ok(ended) => self.reply(initiator, transaction, &ended),
-                Err(refusal) => self.refused(Some(initiator), What::Reply, refusal.number()),
+                Ok(ended) => return self.reply(initiator, transaction, &ended),
+                Err(refusal) => (Some(initiator), What::Reply, refusal),
             },
             Happening::Reading { answer, .. } => match answer {
-                Ok(true) => self.reported(),
-                Ok(false) => {}
-                Err(refusal) => self.refused(None, What::Reading, refusal.number()),
+                Ok(late) => return self.reading(late),
+                Err(refusal) => (None, What::Reading, refusal),
             },
-            _ => {}
+            _ => return,
+        };
+        let (initiator, what, refusal) = refused;
+        self.refused(initiator, what, refusal.number());
+    }
+
+    fn wrong(&mut self, wrong: Wrong) {
+        if self.chart.wrong.len() < WRONG {
+            self.chart.wrong.push(wrong);
+        } else {
+            self.chart.more_wrong += 1;
         }
-        self.say(said);
     }
 
     fn load(&mut self, load: Load) {
@@ -314,9 +324,11 @@ impl Gathered {
         self.end(lane, &record, end);
     }
 
-    fn reported(&mut self) {
-        self.count(|counts| counts.reported += 1);
-        self.event(Event::Reported);
+    fn reading(&mut self, late: bool) {
+        if late {
+            self.count(|counts| counts.reported += 1);
+            self.event(Event::Reported);
+        }
     }
 
     /// Several of one kind in a column are one event.
