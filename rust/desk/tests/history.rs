@@ -506,7 +506,7 @@ fn left_out(page: &Node) -> Vec<String> {
     left_out.map(Node::text).collect()
 }
 
-/// Of a long run the first 2,000 columns are drawn; what comes behind them is counted, and what was played in all is said.
+/// Of a long run the first 2,000 time-codes are drawn; what comes behind them is counted, and what was played in all is said.
 #[test]
 fn a_long_run() {
     let mut script = format!("load {}\n", hex("plans/guide.plan"));
@@ -537,6 +537,23 @@ fn a_long_run() {
     assert_eq!(
         left_out(&page)[1],
         "Left out from here on, not drawn: 1 time-code, 1 request taken."
+    );
+}
+
+/// What stands before the first time-code takes the place of none.
+#[test]
+fn before_a_long_run() {
+    let mut script = format!("load {}\nreq 1 20 0 1\n", hex("plans/guide.plan"));
+    (0..2_001_u32).for_each(|time_code| {
+        script += &format!("tc {} {} 136\n", time_code % 64, 1_000 * time_code);
+    });
+    let page = drawn(&script);
+    assert_eq!(page.values("data-time-code").len(), 2_000);
+    assert_eq!(page.values("data-request"), ["1-0"]);
+    assert_eq!(page.values("data-start"), ["1-0"]);
+    assert_eq!(
+        left_out(&page),
+        ["Left out from here on, not drawn: 1 time-code."]
     );
 }
 

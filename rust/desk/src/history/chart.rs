@@ -3,8 +3,8 @@
 use crate::happening::Wrong;
 use crate::names::Names;
 
-/// The most columns that are drawn of a run, sections, lines that are listed of a section, and lines that are no command.
-pub const COLUMNS: usize = 2_000;
+/// The most time-codes that are drawn of a run, sections, lines that are listed of a section, and lines that are no command.
+pub const TIME_CODES: usize = 2_000;
 pub const SECTIONS: usize = 200;
 pub const SAID: usize = 100;
 pub const WRONG: usize = 20;

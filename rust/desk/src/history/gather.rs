@@ -3,8 +3,8 @@
 use crate::fingerprint::fingerprint;
 use crate::happening::{Happening, Load, Wrong};
 use crate::history::chart::{
-    Bar, Chart, Column, Counts, Cut, End, Event, Joined, Said, Section, TimeCode, What, COLUMNS,
-    SAID, SECTIONS, WRONG,
+    Bar, Chart, Column, Counts, Cut, End, Event, Joined, Said, Section, TimeCode, What, SAID,
+    SECTIONS, TIME_CODES, WRONG,
 };
 use crate::plan::Plan;
 use crate::told::{told, verdict_in_words};
@@ -17,8 +17,8 @@ use spwd::{Ended, Record, ERROR, SUCCESS};
 pub struct Gathered {
     chart: Chart,
     loads: u64,
-    /// Columns that are drawn.
-    columns: usize,
+    /// That are drawn.
+    time_codes: usize,
     /// Of the present section: whether its time-codes are drawn no more, the last time-code, and each lane.
     full: bool,
     last: Option<(u64, u8)>,
@@ -130,7 +130,7 @@ impl Gathered {
     fn cut(&mut self, section: Section) {
         self.lanes = vec![Lane::default(); section.lanes.len()];
         self.last = None;
-        self.full = self.columns >= COLUMNS;
+        self.full = self.time_codes >= TIME_CODES;
         if self.chart.sections.len() < SECTIONS {
             self.chart.sections.push(section);
         } else {
@@ -166,11 +166,11 @@ impl Gathered {
     }
 
     fn begin(&mut self, time_code: Option<TimeCode>) {
-        self.full |= self.columns >= COLUMNS;
+        self.full |= self.time_codes >= TIME_CODES;
         if self.full {
             return;
         }
-        self.columns += 1;
+        self.time_codes += usize::from(time_code.is_some());
         let waiting = self.lanes.iter().map(|lane| lane.waiting).collect();
         if let Some(section) = self.section() {
             section.columns.push(Column {
