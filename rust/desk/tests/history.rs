@@ -241,7 +241,7 @@ fn a_run_by_chance() {
     let mut script = format!("load {}\n", hex("plans/eight.plan"));
     let (mut slot, mut clock) = (0_u8, 0_u32);
     let mut numbers = [0_u16; 8];
-    for _ in 0..600 {
+    for _ in 0..250 {
         for _ in 0..chance.below(6) {
             let (initiator, target) = requests[chance.below(8)];
             script += &format!("req {initiator} {target} 0 {}\n", chance.below(300));
@@ -260,7 +260,7 @@ fn a_run_by_chance() {
         script += &format!("tc {slot} {clock} 136\n");
     }
     let marks = holds(&script);
-    assert!(marks > 2_000, "{marks}");
+    assert!(marks > 1_000, "{marks}");
 }
 
 /// A late transaction whose span ends where a row does, and one that runs on into the next row.
