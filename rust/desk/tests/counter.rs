@@ -204,7 +204,11 @@ fn waiting_and_live() {
             1,
         );
         let holds = ask(&["holds", "-", "plans/guide.plan"], &spwd.image());
-        says(&holds, &format!("HOLDS {print}"), 0);
+        let since = match line {
+            "nothing waits, nothing is live" => String::new(),
+            line => format!("; {line}"),
+        };
+        says(&holds, &format!("HOLDS {print}{since}"), 0);
     };
     spwd.request(1, 20, WRITE, 40).unwrap();
     spwd.request(1, 21, READ, 600).unwrap();
@@ -252,7 +256,12 @@ fn boxes_at_work() {
             );
             assert!(!line.contains("no load"), "{plan}: {line}");
             let answer = holds(&image, &file);
-            assert_eq!((answer.line, answer.yes), (format!("HOLDS {print}"), true));
+            let running = line.split_once("; ").unwrap().1;
+            let since = match running {
+                "nothing waits, nothing is live" => format!("HOLDS {print}"),
+                _ => format!("HOLDS {print}; {running}"),
+            };
+            assert_eq!((answer.line, answer.yes), (since, true));
         }
     }
 }
@@ -312,7 +321,8 @@ fn a_loaded_box_with_a_byte_changed() {
                 assert_eq!(read(&image).is_ok(), other, "{place}");
             }
         } else if *yes {
-            assert_eq!(line, &format!("HOLDS {}", guide()), "{place}");
+            let line = line.split("; waiting: ").next().unwrap();
+            assert_eq!(line, format!("HOLDS {}", guide()), "{place}");
         } else {
             let start = "DAMAGED: no load leaves such memory: ";
             assert!(line.starts_with(start), "{place}: {line}");
@@ -667,6 +677,7 @@ fn as_the_guide_has_them() {
     for answer in [
         blank(&spwd.image()),
         holds(&spwd.image(), &file),
+        holds(&under("guide").image(), &file),
         holds(&other.desk.image(), &file),
     ] {
         assert!(

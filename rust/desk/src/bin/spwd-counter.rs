@@ -28,7 +28,7 @@ The answer is one line:
     BLANK                     every number of the box is that of a clear
     NOT BLANK: ...            the plan by its fingerprint and counts, with what waits and is live; or that no
                               load leaves such memory, with the first number that is not 0
-    HOLDS FINGERPRINT         the box holds this plan
+    HOLDS FINGERPRINT         the box holds this plan; behind it what waits or is live since the load, if anything
     OTHER PLAN: ...           both fingerprints, and the first difference
     NO PLAN: ...              there is no plan in the box
     DAMAGED: ...              no load leaves such memory
