@@ -142,6 +142,11 @@ const fn form(
     }
 }
 
+/// Whether a line with this first word may be an item.
+pub fn begins_item(word: &str) -> bool {
+    FORMS.iter().any(|form| form.word == word)
+}
+
 /// A line that is no item, and for each thing wrong in it what would be right.
 #[derive(Debug, PartialEq, Eq)]
 pub struct Complaint {

@@ -1,6 +1,8 @@
 //! What a file is, by its content: so that one in the wrong place is known for what it is, and not called damaged.
 
 use crate::fields::{fields, Field};
+use crate::form::begins_item;
+use crate::typed::begins_command;
 use spwd::IMAGE_SIZE;
 
 #[derive(Clone, Copy, Debug, PartialEq, Eq)]
@@ -22,24 +24,6 @@ pub enum Kind {
     Words,
     Other,
 }
-
-/// The first words of lines in a plan's text, and in a script.
-pub const ITEMS: [&str; 10] = [
-    "node",
-    "router",
-    "name",
-    "link",
-    "path",
-    "entry",
-    "intervals",
-    "times",
-    "reply",
-    "bytes",
-];
-pub const COMMANDS: [&str; 14] = [
-    "load", "clear", "tc", "req", "rep", "clk", "out", "wd", "setwd", "sheet", "sheet2", "next",
-    "blank", "holds",
-];
 
 pub fn kind(bytes: &[u8]) -> Kind {
     match bytes {
@@ -78,8 +62,8 @@ fn kind_of_text(text: &str) -> Kind {
     let firsts: Vec<_> = lines
         .filter_map(|line| line.split_whitespace().next())
         .collect();
-    let among = |words: &[&str]| firsts.iter().filter(|first| words.contains(first)).count();
-    match (among(&ITEMS), among(&COMMANDS)) {
+    let count = |begins: fn(&str) -> bool| firsts.iter().filter(|first| begins(first)).count();
+    match (count(begins_item), count(begins_command)) {
         (0, 0) if firsts.is_empty() => Kind::Text,
         (0, 0) if is_hex(text) => Kind::Hex,
         (0, 0) => Kind::Words,

@@ -171,6 +171,11 @@ const FORMS: [Form; 14] = [
     form("holds", &[], "holds HEX or holds FILE", PLAN),
 ];
 
+/// Whether a line with this first word may be a command.
+pub fn begins_command(word: &str) -> bool {
+    FORMS.iter().any(|form| form.word == word)
+}
+
 const PLAN: &str = "a plan file in lowercase hex, - for the empty one; or a plan file or its text";
 
 const fn form(

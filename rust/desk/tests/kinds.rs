@@ -6,7 +6,7 @@ use common::{bytes, expected, plans, root, run, COMPILE, COUNTER, SHEET, SHOW};
 use desk::fingerprint::fingerprint;
 use desk::form::compile;
 use desk::judge::judge;
-use desk::kind::{kind, Kind, COMMANDS, ITEMS};
+use desk::kind::{kind, Kind};
 use desk::script::{line_of, Line};
 use spwd::{Spwd, IMAGE_SIZE};
 use std::fs;
@@ -26,19 +26,19 @@ fn under(plan: &str) -> Spwd {
     spwd
 }
 
-/// The words by which texts and scripts are known are those of their own readers.
+/// Every word that begins an item or a command makes a text or a script known, alone in it too.
 #[test]
-fn words_of_others() {
+fn by_first_words() {
     let complaints = compile(b"what").unwrap_err();
     let (_, words) = complaints[0].right[0].split_once("one of: ").unwrap();
     for word in words.split(", ") {
-        assert!(ITEMS.contains(&word), "{word}");
+        assert_eq!(kind(word.as_bytes()), Kind::Text, "{word}");
     }
     let script = fs::read_to_string(root().join("rust/desk/tests/scripts/everything.txt")).unwrap();
     for line in script.lines() {
         if let Line::Command(_) = line_of(line.as_bytes()) {
             let first = line.split(' ').next().unwrap();
-            assert!(COMMANDS.contains(&first), "{line}");
+            assert_eq!(kind(first.as_bytes()), Kind::Script, "{line}");
         }
     }
 }
