@@ -1,6 +1,6 @@
 //! The words behind a program's name: options that it knows, some with words of their own, and other words.
 
-use crate::form::number;
+use crate::number::Number;
 use std::ffi::OsString;
 
 /// What a program was asked for: at most one file.
@@ -96,7 +96,7 @@ pub fn own<'a>(options: &'a Options, name: &str) -> Result<Option<&'a [OsString]
 pub fn numbers<const N: usize>(words: &[OsString], most: [u32; N]) -> Result<[u32; N], String> {
     let mut numbers = most;
     for (place, word) in numbers.iter_mut().zip(words) {
-        *place = number(&word.to_string_lossy(), *place)?;
+        *place = Number::up_to(*place).read(&word.to_string_lossy())?;
     }
     Ok(numbers)
 }

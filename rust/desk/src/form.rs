@@ -3,6 +3,7 @@
 
 use crate::layout::{printable, shortened};
 use crate::names::{name_of, Named, Names};
+use crate::number::{Number, GREATEST, LEAST, RATE, SIXTY_FOUR, SPAN, TIME};
 use crate::plan::Plan;
 use std::collections::BTreeSet;
 
@@ -28,26 +29,6 @@ enum Most {
     Any,
 }
 
-/// What a number may be for the box to take it, and how many bytes it is written in; what these have room for is not refused here.
-#[derive(Clone, Copy)]
-struct Number {
-    least: u32,
-    most: u32,
-    bytes: usize,
-}
-
-const fn number_of(least: u32, most: u32, bytes: usize) -> Number {
-    Number { least, most, bytes }
-}
-
-/// Of a device, a link or a slot.
-const NUMBER: Number = number_of(0, 63, 1);
-const SPAN: Number = number_of(1, 16, 1);
-const LEAST: Number = number_of(0, 2_147_483_647, 4);
-const GREATEST: Number = number_of(1, 2_147_483_647, 4);
-const RATE: Number = number_of(2, 400, 2);
-const TIME: Number = number_of(0, 1_000_000, 4);
-
 const LINKS: Most = Most::Field {
     behind: 2,
     things: 8,
@@ -61,27 +42,27 @@ const TARGETS: Most = Most::Field {
 };
 
 const FORMS: [Form; 10] = [
-    form("node", 1, Most::Words(1), &[NUMBER], "node N"),
-    form("router", 1, Most::Words(1), &[NUMBER], "router N"),
+    form("node", 1, Most::Words(1), &[SIXTY_FOUR], "node N"),
+    form("router", 1, Most::Words(1), &[SIXTY_FOUR], "router N"),
     form(
         "link",
         3,
         Most::Words(3),
-        &[NUMBER],
+        &[SIXTY_FOUR],
         "link N A B (link N joins devices A and B)",
     ),
     form(
         "path",
         3,
         LINKS,
-        &[NUMBER],
+        &[SIXTY_FOUR],
         "path I T L.. (from initiator I to target T over the links L)",
     ),
     form(
         "entry",
         4,
         TARGETS,
-        &[NUMBER, NUMBER, SPAN, NUMBER],
+        &[SIXTY_FOUR, SIXTY_FOUR, SPAN, SIXTY_FOUR],
         "entry I S N T.. (initiator I at slot S with span N may start to the targets T)",
     ),
     form(
@@ -102,14 +83,14 @@ const FORMS: [Form; 10] = [
         "reply",
         3,
         LINKS,
-        &[NUMBER],
+        &[SIXTY_FOUR],
         "reply I T L.. (from target T back to initiator I over the links L)",
     ),
     form(
         "name",
         2,
         Most::Any,
-        &[NUMBER],
+        &[SIXTY_FOUR],
         "name N WORDS (device N is called WORDS on pages; no part of the file)",
     ),
     form(
@@ -275,7 +256,7 @@ impl Reading {
         line: &str,
     ) -> Result<(), Vec<String>> {
         form_of("name", words.len())?;
-        let device = value(words[0], NUMBER.least, NUMBER.most, NUMBER.most);
+        let device = Number::up_to(SIXTY_FOUR.most).read(words[0]);
         let name = name_of(&words_of(item_of(line))[2..]);
         match (device, name) {
             (Ok(device), Ok(name)) => {
@@ -395,9 +376,8 @@ fn each<T>(values: impl Iterator<Item = Result<T, String>>) -> Result<Vec<T>, Ve
 fn written(words: &[&str], numbers: &[Number]) -> Result<Vec<u8>, Vec<String>> {
     let kinds = numbers.iter().chain(numbers.last().into_iter().cycle());
     let bytes = words.iter().zip(kinds).map(|(word, kind)| {
-        let room = u32::MAX >> (32 - 8 * kind.bytes);
-        let number = value(word, kind.least, kind.most, room)?;
-        Ok(number.to_be_bytes()[4 - kind.bytes..].to_vec())
+        let number = kind.read(word)?;
+        Ok(kind.bytes(number))
     });
     each(bytes).map(|bytes| bytes.concat())
 }
@@ -405,32 +385,6 @@ fn written(words: &[&str], numbers: &[Number]) -> Result<Vec<u8>, Vec<String>> {
 /// The field of slot times: the rate in two bytes and the other numbers in four; or all complaints about them.
 pub fn times(words: &[&str]) -> Result<Vec<u8>, Vec<String>> {
     Ok(field(6, &written(words, &TIMES)?))
-}
-
-/// A number in decimal digits, at most `most`.
-pub fn number(word: &str, most: u32) -> Result<u32, String> {
-    value(word, 0, most, most)
-}
-
-/// A number that there is room for; where there is none, what would be right.
-pub fn value(word: &str, least: u32, most: u32, room: u32) -> Result<u32, String> {
-    let name = shortened(word, 60);
-    if !word.bytes().all(|digit| digit.is_ascii_digit()) {
-        return Err(format!(
-            "'{name}' is no number; right is a number in decimal digits, {least} to {most}"
-        ));
-    }
-    let digits = word.trim_start_matches('0');
-    match if digits.is_empty() {
-        Ok(0)
-    } else {
-        digits.parse()
-    } {
-        Ok(number) if number <= room => Ok(number),
-        _ => Err(format!(
-            "{name} is too great; right is a number from {least} to {most}"
-        )),
-    }
 }
 
 fn hex(word: &str) -> Result<u8, String> {

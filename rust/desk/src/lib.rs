@@ -25,6 +25,7 @@ pub mod memory;
 pub mod names;
 pub mod network;
 pub mod no_entry;
+pub mod number;
 pub mod overlaps;
 pub mod page;
 pub mod panel;

@@ -2,8 +2,8 @@
 //!
 //! Which line is a command is for `script`, which is as strict as `replay`. Here it is given the line that was meant.
 
-use crate::form::value;
 use crate::layout::{printable, shortened};
+use crate::number::{Number, BYTE, KIND, LENGTH, LONG, RATE, ROUTERS, SHORT, SIXTY_FOUR, TIME};
 use crate::script::{line_of, Command, Line, BUFFER, FILE, LINE, ROOM};
 
 #[derive(Debug, PartialEq, Eq)]
@@ -87,30 +87,8 @@ struct Form {
     says: &'static str,
 }
 
-/// What a number may be for the box to take it, and the greatest that a script can say.
-#[derive(Clone, Copy)]
-struct Number {
-    least: u32,
-    most: u32,
-    room: u32,
-}
-
-const fn number(least: u32, most: u32, room: u32) -> Number {
-    Number { least, most, room }
-}
-
-/// A device or a slot.
-const SIXTY_FOUR: Number = number(0, 63, 255);
-const KIND: Number = number(0, 1, 255);
-const BYTE: Number = number(0, 255, 255);
-const ROUTERS: Number = number(0, 7, 255);
-const LENGTH: Number = number(0, 4_096, 65_535);
-const RATE: Number = number(2, 400, 65_535);
-const SHORT: Number = number(0, 65_535, 65_535);
-const LONG: Number = number(0, u32::MAX, u32::MAX);
-const LATENCY: Number = number(0, 1_000_000, u32::MAX);
-const RECORDS: Number = number(0, BUFFER as u32, BUFFER as u32);
-const WRITTEN: Number = number(0, ROOM as u32, ROOM as u32);
+const RECORDS: Number = Number::up_to(BUFFER as u32);
+const WRITTEN: Number = Number::up_to(ROOM as u32);
 
 const FORMS: [Form; 14] = [
     form("load", &[], "load HEX or load FILE", PLAN),
@@ -149,15 +127,13 @@ const FORMS: [Form; 14] = [
     ),
     form(
         "sheet",
-        &[ROUTERS, RATE, LENGTH, LATENCY, LATENCY, LATENCY, LATENCY],
+        &[ROUTERS, RATE, LENGTH, TIME, TIME, TIME, TIME],
         "sheet R S D A DD F G",
         "R routers, S Mbit/s, D data bytes, latencies A DD F G in ns",
     ),
     form(
         "sheet2",
-        &[
-            ROUTERS, ROUTERS, RATE, LENGTH, LATENCY, LATENCY, LATENCY, LATENCY,
-        ],
+        &[ROUTERS, ROUTERS, RATE, LENGTH, TIME, TIME, TIME, TIME],
         "sheet2 RC RR S D A DD F G",
         "RC routers on the command's way, RR on the reply's, then as for sheet",
     ),
@@ -215,8 +191,7 @@ impl Form {
             return words.iter().map(|word| no_hex(word)).collect();
         }
         let numbers = words.iter().zip(self.numbers);
-        let wrong = numbers
-            .filter_map(|(word, number)| value(word, number.least, number.most, number.room).err());
+        let wrong = numbers.filter_map(|(word, number)| number.read(word).err());
         wrong.collect()
     }
 }

@@ -2,8 +2,9 @@
 #![forbid(unsafe_code)]
 
 use desk::arguments::{given, numbers, one_file, own, version, Given, Options};
-use desk::form::{number, times};
+use desk::form::times;
 use desk::judge::judge;
+use desk::number::Number;
 use desk::page::page;
 use desk::plan::Plan;
 use desk::sheet::{of_plan, with_times, Asked};
@@ -123,7 +124,7 @@ fn lengths(words: &[OsString]) -> Result<Vec<u16>, String> {
     if words.is_empty() {
         return Err("a length is missing".to_string());
     }
-    let length = |word: &OsString| number(&word.to_string_lossy(), u16::MAX.into());
+    let length = |word: &OsString| Number::up_to(u16::MAX.into()).read(&word.to_string_lossy());
     let lengths = words.iter().map(|word| Ok(length(word)? as u16));
     lengths.collect()
 }
