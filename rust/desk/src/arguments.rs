@@ -1,5 +1,6 @@
 //! The words behind a program's name: options that it knows, some with words of their own, and other words.
 
+use crate::layout::stand;
 use crate::number::Number;
 use std::ffi::OsString;
 
@@ -64,10 +65,8 @@ pub fn given(
             let &(option, count) = option.ok_or(format!("there is no option {text}"))?;
             let own: Vec<_> = words.by_ref().take(count).collect();
             if own.len() < count {
-                let found = own.len();
-                return Err(format!(
-                    "behind {option} stand {found} words and should stand {count}"
-                ));
+                let found = stand(own.len());
+                return Err(format!("behind {option} {found} and should stand {count}"));
             }
             options.push((option, own));
         } else {

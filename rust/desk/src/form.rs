@@ -1,7 +1,7 @@
 //! The text form of a plan: one item a line, `#` starts a comment. A line becomes the bytes of its field, whatever its numbers say; a line
 //! that names a device becomes none.
 
-use crate::layout::{printable, shortened};
+use crate::layout::{printable, shortened, stand};
 use crate::names::{name_of, Named, Names};
 use crate::number::{Number, GREATEST, LEAST, RATE, SIXTY_FOUR, SPAN, TIME};
 use crate::plan::Plan;
@@ -310,8 +310,10 @@ fn form_of(first: &str, words: usize) -> Result<&'static Form, Vec<String>> {
     match form.count(words) {
         None => Ok(form),
         Some(right) => Err(vec![format!(
-            "behind '{}' stand {words} words and should stand {right}: {}",
-            form.word, form.form
+            "behind '{}' {} and should stand {right}: {}",
+            form.word,
+            stand(words),
+            form.form
         )]),
     }
 }

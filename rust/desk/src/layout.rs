@@ -26,6 +26,14 @@ pub fn shortened(text: &str, most: usize) -> String {
     }
 }
 
+/// How many words there are: "stands 1 word", "stand 3 words".
+pub fn stand(count: usize) -> String {
+    match count {
+        1 => "stands 1 word".to_string(),
+        _ => format!("stand {count} words"),
+    }
+}
+
 /// Bytes in hex with one space between, at most 32 of them.
 pub fn hex(bytes: &[u8]) -> String {
     const MOST: usize = 32;

@@ -2,7 +2,7 @@
 //!
 //! Which line is a command is for `script`, which is as strict as `replay`. Here it is given the line that was meant.
 
-use crate::layout::{printable, shortened};
+use crate::layout::{printable, shortened, stand};
 use crate::number::{Number, BYTE, KIND, LENGTH, LONG, RATE, ROUTERS, SHORT, SIXTY_FOUR, TIME};
 use crate::script::{line_of, Command, Line, BUFFER, FILE, LINE, ROOM};
 
@@ -212,7 +212,8 @@ fn why(words: &[&str]) -> Vec<String> {
         form.wrong(rest)
     } else {
         vec![format!(
-            "behind '{first}' stand {found} words and should stand {count}: {}",
+            "behind '{first}' {} and should stand {count}: {}",
+            stand(found),
             form.whole()
         )]
     };

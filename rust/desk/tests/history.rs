@@ -667,7 +667,7 @@ fn by_itself() {
 fn statuses_and_standard_error() {
     let guide = format!("load {}\n", hex("plans/guide.plan"));
     let refused = "load: REFUSED 12 0: the timing field is missing (file length 0); there is no plan in the box\n";
-    let wrong = "line 2: not a command: clear 1\n    behind 'clear' stand 1 words and should stand 0: clear\n";
+    let wrong = "line 2: not a command: clear 1\n    behind 'clear' stands 1 word and should stand 0: clear\n";
     for (script, status, err) in [
         (guide.clone(), Status::Done, String::new()),
         (format!("{guide}req 9 9 9 9\n"), Status::Done, String::new()),

@@ -87,7 +87,7 @@ fn what_is_wrong_with_a_name() {
         ),
         (
             b"name 1 # camera",
-            &format!("behind 'name' stand 1 words and should stand at least 2: {form}"),
+            &format!("behind 'name' stands 1 word and should stand at least 2: {form}"),
         ),
         (
             b"name camera 1",
