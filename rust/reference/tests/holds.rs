@@ -4,8 +4,8 @@ mod common;
 
 use common::model::ModelPlan;
 use common::{
-    device, entry, first_plan, intervals, least_plan, link, path, plan_a, reply, split, times,
-    two_ways, used_unit, Driver, Random,
+    device, entry, first_plan, intervals, least_plan, link, path, plan_a, reply, shuffled, split,
+    times, two_ways, used_unit, Driver, Random,
 };
 use reference::{Unit, Watchdog};
 
@@ -139,18 +139,9 @@ fn every_order_of_its_file() {
     let mut random = Random(11);
     let driver = Driver::new(&rich().concat());
     for _ in 0..200 {
-        let mut fields = rich();
-        random.shuffle(&mut fields);
-        fields.sort_by_key(|field| field[0]);
-        for field in &mut fields {
-            match field[0] {
-                2 if random.chance(50) => field.swap(4, 5),
-                4 => random.shuffle(&mut field[6..]),
-                _ => (),
-            }
-        }
-        assert!(holds(&driver, &fields.concat()));
-        assert!(holds(&Driver::new(&fields.concat()), &rich().concat()));
+        let other = shuffled(&rich().concat(), &mut random);
+        assert!(holds(&driver, &other));
+        assert!(holds(&Driver::new(&other), &rich().concat()));
     }
 }
 

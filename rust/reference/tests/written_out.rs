@@ -4,8 +4,8 @@ mod common;
 
 use common::model::ModelPlan;
 use common::{
-    device, entry, first_plan, intervals, least_plan, link, path, plan_a, reply, row_plan, split,
-    times, usual_times, Driver, Random,
+    device, entry, first_plan, intervals, least_plan, link, path, plan_a, reply, row_plan,
+    shuffled, split, times, usual_times, Driver, Random,
 };
 use reference::{Unit, WRITTEN_OUT};
 
@@ -115,21 +115,6 @@ fn with_replies(full_plan: &[u8]) -> Vec<u8> {
         file.extend(reply(row, target, &links));
     }
     file
-}
-
-/// The same plan in another order.
-fn shuffled(file: &[u8], random: &mut Random) -> Vec<u8> {
-    let mut fields = split(file);
-    random.shuffle(&mut fields);
-    fields.sort_by_key(|field| field[0]);
-    for field in &mut fields {
-        match field[0] {
-            2 if random.chance(50) => field.swap(4, 5),
-            4 => random.shuffle(&mut field[6..]),
-            _ => (),
-        }
-    }
-    fields.concat()
 }
 
 #[test]

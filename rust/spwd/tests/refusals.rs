@@ -2,7 +2,7 @@
 
 mod common;
 
-use common::{first, under};
+use common::{first, under, REFUSED};
 use spwd::{Ended, Event, Refusal, Spwd, Watchdog};
 use spwd::{ERROR, LENGTH_MOST, READ, RECORDS_ROOM, WAITING_MOST, WRITE};
 
@@ -141,21 +141,7 @@ fn the_five_as_lent() {
 #[test]
 fn refusals_as_text() {
     assert_eq!(Refusal::NOT_PERMITTED.to_string(), "refused 25");
-    let numbers = [
-        Refusal::NO_PLAN,
-        Refusal::UPPER_BITS,
-        Refusal::NO_INITIATOR,
-        Refusal::UNKNOWN_KIND,
-        Refusal::LENGTH_OVER_MOST,
-        Refusal::NOT_PERMITTED,
-        Refusal::LINE_FULL,
-        Refusal::NOTHING_LIVE,
-        Refusal::OTHER_TRANSACTION,
-        Refusal::SMALL_BUFFER,
-        Refusal::SMALL_ROOM,
-        Refusal::SLOT_OVER_MOST,
-    ]
-    .map(Refusal::number);
+    let numbers = REFUSED.map(Refusal::number);
     let right = (20..=30).chain([33]);
     assert_eq!(numbers.to_vec(), right.collect::<Vec<u8>>());
 }

@@ -2,24 +2,9 @@
 
 mod common;
 
-use common::{busy, first, smallest};
+use common::{busy, first, smallest, REFUSED};
 use spwd::words::{self, Row, RECORDS, REFUSALS, UNKNOWN, VERDICTS};
 use spwd::{Record, Refusal, Spwd, Verdict};
-
-const REFUSED: [Refusal; 12] = [
-    Refusal::NO_PLAN,
-    Refusal::UPPER_BITS,
-    Refusal::NO_INITIATOR,
-    Refusal::UNKNOWN_KIND,
-    Refusal::LENGTH_OVER_MOST,
-    Refusal::NOT_PERMITTED,
-    Refusal::LINE_FULL,
-    Refusal::NOTHING_LIVE,
-    Refusal::OTHER_TRANSACTION,
-    Refusal::SMALL_BUFFER,
-    Refusal::SMALL_ROOM,
-    Refusal::SLOT_OVER_MOST,
-];
 
 #[test]
 fn a_verdict() {

@@ -341,3 +341,18 @@ impl Random {
         }
     }
 }
+
+/// The same plan in another order.
+pub fn shuffled(file: &[u8], random: &mut Random) -> Vec<u8> {
+    let mut fields = split(file);
+    random.shuffle(&mut fields);
+    fields.sort_by_key(|field| field[0]);
+    for field in &mut fields {
+        match field[0] {
+            2 if random.chance(50) => field.swap(4, 5),
+            4 => random.shuffle(&mut field[6..]),
+            _ => (),
+        }
+    }
+    fields.concat()
+}

@@ -1,7 +1,23 @@
-//! Plan files for the tests.
+//! Plan files for the tests, and the refusals.
 #![allow(dead_code)]
 
-use spwd::{Spwd, READ, RECORDS_ROOM};
+use spwd::{Refusal, Spwd, READ, RECORDS_ROOM};
+
+/// Every refusal, by its number.
+pub const REFUSED: [Refusal; 12] = [
+    Refusal::NO_PLAN,
+    Refusal::UPPER_BITS,
+    Refusal::NO_INITIATOR,
+    Refusal::UNKNOWN_KIND,
+    Refusal::LENGTH_OVER_MOST,
+    Refusal::NOT_PERMITTED,
+    Refusal::LINE_FULL,
+    Refusal::NOTHING_LIVE,
+    Refusal::OTHER_TRANSACTION,
+    Refusal::SMALL_BUFFER,
+    Refusal::SMALL_ROOM,
+    Refusal::SLOT_OVER_MOST,
+];
 
 pub fn field(tag: u8, content: &[u8]) -> Vec<u8> {
     [&[tag, 0, content.len() as u8], content].concat()
