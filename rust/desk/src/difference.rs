@@ -1,6 +1,6 @@
 //! The first difference between the plan in a box and that of a file, in words.
 
-use crate::fields::{numbers, Entry, Times};
+use crate::fields::{named, Entry, Times};
 use crate::plan::Plan;
 use spwd::Latencies;
 use std::collections::BTreeMap;
@@ -83,19 +83,13 @@ fn things(plan: &Plan) -> Things {
 }
 
 fn over(links: &[u8]) -> String {
-    format!("over {}", several("link", links))
-}
-
-/// "target 3", "targets 3 4".
-fn several(name: &str, several: &[u8]) -> String {
-    let plural = if several.len() == 1 { "" } else { "s" };
-    format!("{name}{plural} {}", numbers(several))
+    format!("over {}", named("link", links))
 }
 
 fn entry(entry: &Entry) -> ([u8; 3], Said) {
     let (initiator, slot, span) = (entry.initiator, entry.slot, entry.span);
     let name = format!("entry of initiator {initiator} at slot {slot}");
-    let parts = [format!("span {span}"), several("target", entry.targets)];
+    let parts = [format!("span {span}"), named("target", entry.targets)];
     ([4, initiator, slot], said(name, &parts))
 }
 

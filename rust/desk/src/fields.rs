@@ -1,5 +1,6 @@
 //! A plan file as fields, and a field as the item that it gives. Nothing is judged here.
 
+use crate::sets::set;
 use spwd::Latencies;
 use std::fmt::{self, Display, Formatter};
 
@@ -55,6 +56,12 @@ pub fn fields(file: &[u8]) -> Vec<Field<'_>> {
         offset += bytes.len();
     }
     fields
+}
+
+/// The bytes of a field: tag, length and content, which has at most 65,535 bytes.
+pub fn field(tag: u8, content: &[u8]) -> Vec<u8> {
+    let length = (content.len() as u16).to_be_bytes();
+    [&[tag], &length[..], content].concat()
 }
 
 fn sixteen(bytes: &[u8]) -> usize {
@@ -230,6 +237,11 @@ impl Entry<'_> {
         after < i32::from(self.span)
     }
 
+    /// All slots that it covers, as a set.
+    pub fn covered(&self) -> u64 {
+        set((0..64).filter(|&slot| self.covers(slot)))
+    }
+
     /// The slots that it covers, in words.
     pub fn slots(&self) -> String {
         let last = (i32::from(self.slot) + i32::from(self.span) - 1).rem_euclid(64);
@@ -241,7 +253,7 @@ impl Entry<'_> {
 }
 
 /// "target 3", "targets 3 4".
-fn named(name: &str, several: &[u8]) -> String {
+pub fn named(name: &str, several: &[u8]) -> String {
     let plural = if several.len() == 1 { "" } else { "s" };
     format!("{name}{plural} {}", numbers(several))
 }

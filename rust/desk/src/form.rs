@@ -1,6 +1,7 @@
 //! The text form of a plan: one item a line, `#` starts a comment. A line becomes the bytes of its field, whatever its numbers say; a line
 //! that names a device becomes none.
 
+use crate::fields::field;
 use crate::layout::{printable, shortened, stand};
 use crate::names::{name_of, Named, Names};
 use crate::number::{Number, GREATEST, LEAST, RATE, SIXTY_FOUR, SPAN, TIME};
@@ -398,10 +399,4 @@ fn hex(word: &str) -> Result<u8, String> {
             shortened(word, 60)
         )),
     }
-}
-
-/// Tag, length and content; the content has at most `MOST` bytes.
-fn field(tag: u8, content: &[u8]) -> Vec<u8> {
-    let length = (content.len() as u16).to_be_bytes();
-    [&[tag], &length[..], content].concat()
 }

@@ -4,8 +4,9 @@
 use crate::fault::reasons;
 use crate::fields::{fields, numbers, Entry, Field};
 use crate::layout::{hex, shortened};
-use crate::overlaps::{clashes, members, overruns, slots_in_words, Clash, Overrun};
+use crate::overlaps::{clashes, overruns, slots_in_words, Clash, Overrun};
 use crate::plan::Plan;
+use crate::sets::members;
 use crate::source::Source;
 use crate::taken::hint;
 use crate::words;

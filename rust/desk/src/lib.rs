@@ -33,6 +33,7 @@ pub mod plan;
 pub mod plan_file;
 pub mod running;
 pub mod script;
+pub mod sets;
 pub mod sheet;
 pub mod source;
 pub mod streams;

@@ -1,6 +1,8 @@
 //! The plan in a box's memory, read back from its image as a file. Any memory gives some file: whether it is that of a load is for the box
 //! to say, which is asked whether the memory holds the plan of that file.
 
+use crate::fields::field;
+use crate::sets::members;
 use spwd::{Array, Image};
 
 /// Places in `numbers`, and rows and strides of the other arrays, as crates/memory_plan/src/layout.rt has them.
@@ -46,12 +48,6 @@ pub fn initiators(image: &Image) -> Vec<u8> {
     rows.map(|row| memory.byte(Array::ROWS, row)).collect()
 }
 
-/// Tag, length and content.
-fn field(tag: u8, content: &[u8]) -> Vec<u8> {
-    let length = (content.len() as u16).to_be_bytes();
-    [&[tag], &length[..], content].concat()
-}
-
 struct Memory<'a>(&'a Image);
 
 impl Memory<'_> {
@@ -71,8 +67,7 @@ impl Memory<'_> {
 
     /// The numbers that are in a set.
     fn set(&self, array: Array, place: usize) -> Vec<u8> {
-        let set = self.0.number(array, place);
-        (0..64).filter(|number| set >> number & 1 == 1).collect()
+        members(self.0.number(array, place))
     }
 
     fn devices(&self) -> Vec<u8> {

@@ -2,6 +2,7 @@
 
 use crate::fields::Entry;
 use crate::plan::Plan;
+use crate::sets::{members, set};
 
 /// An entry that is still running when the next one of the same initiator begins.
 #[derive(Clone, Copy, Debug, PartialEq, Eq)]
@@ -75,7 +76,6 @@ struct Used<'a> {
 
 impl<'a> Used<'a> {
     fn of(plan: &Plan, entry: &Entry<'a>) -> Self {
-        let slots = (0..64).filter(|&slot| entry.covers(slot));
         let ways = entry.targets.iter().flat_map(|&target| {
             let path = plan.path(entry.initiator, target).map(|path| path.links);
             let reply = plan.reply(entry.initiator, target).map(|reply| reply.links);
@@ -83,7 +83,7 @@ impl<'a> Used<'a> {
         });
         Self {
             entry: *entry,
-            slots: set(slots),
+            slots: entry.covered(),
             links: set(ways),
         }
     }
@@ -98,16 +98,6 @@ impl<'a> Used<'a> {
             links,
         })
     }
-}
-
-/// Of numbers below 64.
-fn set(numbers: impl Iterator<Item = u8>) -> u64 {
-    numbers.fold(0, |set, number| set | 1 << (number % 64))
-}
-
-/// The numbers of a set, rising.
-pub fn members(set: u64) -> Vec<u8> {
-    (0..64).filter(|number| set >> number & 1 == 1).collect()
 }
 
 /// Slots one after another, over 63 to 0 too: "slot 5", "slots 62 to 0".

@@ -56,7 +56,7 @@ pub fn bars<'a>(entries: impl Iterator<Item = &'a Entry<'a>>) -> Vec<Bar<'a>> {
     let mut lanes: Vec<u64> = Vec::new();
     let mut bars = Vec::new();
     for entry in entries {
-        let covered = covered(entry);
+        let covered = entry.covered();
         let free = lanes.iter().position(|lane| lane & covered == 0);
         let lane = free.unwrap_or(lanes.len());
         match lanes.get_mut(lane) {
@@ -69,10 +69,4 @@ pub fn bars<'a>(entries: impl Iterator<Item = &'a Entry<'a>>) -> Vec<Bar<'a>> {
         });
     }
     bars
-}
-
-/// The slots of an entry as a set.
-fn covered(entry: &Entry) -> u64 {
-    let slots = (0..SLOTS).filter(|&slot| entry.covers(slot));
-    slots.fold(0, |set, slot| set | 1 << slot)
 }
