@@ -16,6 +16,7 @@ Every P [] = Unit {0}
 Every P (x ∷ xs) = P x × Every P xs
 
 pub every-member : {A : Type 0} (P : A → Type 0) (xs : List A) → Every P xs → (x : A) → Memᴰ x xs → P x
+every-member {A = A} P [] h x x4 = elim x4 [ ]
 every-member P (y ∷ ys) h x (Memᴰ.head e) = rw e h.0
 every-member P (y ∷ ys) h x (Memᴰ.tail m) = every-member P ys h.1 x m
 
@@ -98,6 +99,7 @@ module _ {A : Type 0} (same : A → A → Bool) where
   -- members that are the same are one
   pub repeats-one : (xs : List A) (x y : A) → repeats same xs ≡ false → Memᴰ x xs → Memᴰ y xs → same x y ≡ true → same y x ≡ true → x ≡ y
   unfolding repeats
+  repeats-one [] x y h x7 _ a b = elim x7 [ ]
   repeats-one (z ∷ zs) x y h (Memᴰ.head e) (Memᴰ.head f) a b = e ∙ sym f
   repeats-one (z ∷ zs) x y h (Memᴰ.head e) (Memᴰ.tail n) a b = not-both (rw e at a) (any_false (same z) zs y (neither (any (same z) zs) (repeats same zs) h).0 n)
   repeats-one (z ∷ zs) x y h (Memᴰ.tail m) (Memᴰ.head f) a b = not-both (rw f at b) (any_false (same z) zs x (neither (any (same z) zs) (repeats same zs) h).0 m)

@@ -22,6 +22,7 @@ module _ {A : Type 0} where
 
   pub member-at : (xs : List A) (x : A) → Memᴰ x xs → (k : ℕ) × (k < length xs) × (at_place k xs ≡ some x)
   unfolding at_place
+  member-at [] x x3 = elim x3 [ ]
   member-at (y ∷ ys) x (Memᴰ.head e) = (0, omega arith, rw e)
   member-at (y ∷ ys) x (Memᴰ.tail m) = let (k, l, h) = member-at ys x m in (suc k, omega arith, h)
 

@@ -39,11 +39,17 @@ module _ {B : Type 0} (f : ℕ → List B) (w : ℕ) (wide : (r : ℕ) → lengt
   unfolding flat_map up_from
   block-put zero i k v h = absurd (omega arith)
   block-put (suc n) i zero v h =
-      rw (zero-mul w, add-zero i) (ap (λ l. v ++ l) (rw (← wide i) (drop-append_seam (f i) (flat_map f (up_from n (suc i)))) ∙ rest) ∙ ap (λ l. l ++ flat_map (in_place i v) (up_from n (suc i))) (sym (in_place_lem i v)))
+      rw (zero-mul w)
+      (ap (λ l. v ++ l) (rw (← wide i) (drop-append_seam (f i) (flat_map f (up_from n (suc i)))) ∙ rest) ∙ ap (λ l. l ++ flat_map (in_place i v) (up_from n (suc i))) (sym (in_place_lem i v))
+      ∙ ap (λ (j : ℕ). flat_map (in_place j v) (up_from (suc n) i)) (sym (add-zero i)))
     where
       rest : flat_map f (up_from n (suc i)) ≡ flat_map (in_place i v) (up_from n (suc i))
       rest = flat-same f (in_place i v) (up_from n (suc i)) (λ r m. sym (out-of-place i v r (λ e. omega (arith, e, up_from-range n (suc i) r m))))
   block-put (suc n) i (suc k) v h =
-      rw (one_more k i, take-append-add (f i) (flat_map f (up_from n (suc i))) (k * w), drop-append-add (f i) (flat_map f (up_from n (suc i))) (k * w), add-suc i k, ← suc-add i k)
+      rw (one_more k i, take-append-add (f i) (flat_map f (up_from n (suc i))) (k * w), drop-append-add (f i) (flat_map f (up_from n (suc i))) (k * w))
       (append_assoc (f i) _ _ ∙ ap (λ l. f i ++ l) (block-put n (suc i) k v (omega arith))
-      ∙ ap (λ l. l ++ flat_map (in_place (suc i + k) v) (up_from n (suc i))) (sym (out-of-place (suc i + k) v i (λ e. omega (arith, e)))))
+      ∙ ap (λ l. l ++ flat_map (in_place (suc i + k) v) (up_from n (suc i))) (sym (out-of-place (suc i + k) v i (λ e. omega (arith, e))))
+      ∙ ap (λ (j : ℕ). in_place j v i ++ flat_map (in_place j v) (up_from n (suc i))) moved)
+    where
+      moved : suc i + k ≡ i + suc k
+      moved = omega arith

@@ -39,5 +39,6 @@ find-one t xs x l m e =
 -- a member stands at some place
 pub place_of : {A : Type 0} (xs : List A) (x : A) → Memᴰ x xs → (k : ℕ) × (k < length xs) × (at_place k xs ≡ some x)
 unfolding at_place
+place_of {A = A} [] x x3 = elim x3 [ ]
 place_of (y ∷ ys) x (Memᴰ.head e) = (0, omega arith, rw e)
 place_of (y ∷ ys) x (Memᴰ.tail m) = let (k, l, e) = place_of ys x m in (suc k, omega arith, e)

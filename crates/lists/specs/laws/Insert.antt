@@ -222,6 +222,7 @@ inserted-orders a b xs x h g d = orders-around a b (inserted-map (λ y m. m) (λ
 
 -- of an element that is among the others
 inserted-member : {A : Type 0} (xs : List A) (x : A) → Memᴰ x xs → (ys : List A) × Inserted (λ y. Memᴰ y ys) (λ y. Memᴰ y ys) ys x xs
+inserted-member {A = A} [] x x3 = elim x3 [ ]
 inserted-member (z ∷ zs) x (Memᴰ.head e) = (zs, record { before = []; behind = zs; old = refl; new = rw e; less = λ y m. absurd (Memᴰ.not-nil m); more = λ y m. m })
 inserted-member {A} (z ∷ zs) x (Memᴰ.tail m) =
     let (ys, i) = inserted-member zs x m in

@@ -15,6 +15,7 @@ module _ {A : Type 0} (t : A → Bool) where
   -- one element fails: fewer are kept
   pub keep-fewer : (xs : List A) (x : A) → Memᴰ x xs → t x ≡ false → length (keep t xs) < length xs
   unfolding keep
+  keep-fewer [] x x4 h = elim x4 [ ]
   keep-fewer (y ∷ ys) x (Memᴰ.head e) h = rw (rw e at h) (omega (arith, keep-short t ys))
   keep-fewer (y ∷ ys) x (Memᴰ.tail m) h =
       let ih = keep-fewer ys x m h in

@@ -26,11 +26,13 @@ module _ {A : Type 0} (t : A → Bool) where
 
   pub any-intro : (xs : List A) (x : A) → Memᴰ x xs → t x ≡ true → any t xs ≡ true
   unfolding any
+  any-intro [] x x4 e = elim x4 [ ]
   any-intro (y ∷ ys) x (Memᴰ.head h) e = rw (← h, e)
   any-intro (y ∷ ys) x (Memᴰ.tail m) e = rw (any-intro ys x m e) (or-true (t y))
 
   pub any_false : (xs : List A) (x : A) → any t xs ≡ false → Memᴰ x xs → t x ≡ false
   unfolding any
+  any_false [] x h x4 = elim x4 [ ]
   any_false (y ∷ ys) x h (Memᴰ.head e) = rw e (neither (t y) (any t ys) h).0
   any_false (y ∷ ys) x h (Memᴰ.tail m) = any_false ys x (neither (t y) (any t ys) h).1 m
 
@@ -51,6 +53,7 @@ module _ {A : Type 0} (t : A → Bool) where
   -- all
   pub all-elim : (xs : List A) (x : A) → all t xs ≡ true → Memᴰ x xs → t x ≡ true
   unfolding all
+  all-elim [] x h x4 = elim x4 [ ]
   all-elim (y ∷ ys) x h (Memᴰ.head e) = rw e (both_true (t y) (all t ys) h).0
   all-elim (y ∷ ys) x h (Memᴰ.tail m) = all-elim ys x (both_true (t y) (all t ys) h).1 m
 
@@ -71,6 +74,7 @@ module _ {A : Type 0} (t : A → Bool) where
 
   pub find_none : (xs : List A) (x : A) → find t xs ≡ none → Memᴰ x xs → t x ≡ true → ⊥
   unfolding find
+  find_none [] x e x5 g = elim x5 [ ]
   find_none (y ∷ ys) x e (Memᴰ.head h) g = let k : some y ≡ none = rw (rw h at g, find) at e in none-some (sym k)
   find_none (y ∷ ys) x e (Memᴰ.tail m) g = go (find_none ys x) (t y) refl
     where
@@ -101,6 +105,7 @@ module _ {A : Type 0} (t : A → Bool) where
 
   pub keep-intro : (xs : List A) (x : A) → Memᴰ x xs → t x ≡ true → Memᴰ x (keep t xs)
   unfolding keep
+  keep-intro [] x x4 h = elim x4 [ ]
   keep-intro (y ∷ ys) x (Memᴰ.head e) h = rw (rw e at h) (Memᴰ.head e)
   keep-intro (y ∷ ys) x (Memᴰ.tail m) h = cond_cases (λ l. Memᴰ x l) (t y) (y ∷ keep t ys) (keep t ys) (λ _. Memᴰ.tail (keep-intro ys x m h)) (λ _. keep-intro ys x m h)
 
@@ -156,6 +161,7 @@ flat-elim {A} f (x ∷ xs) y m = go (flat-elim f xs y) (Memᴰ.append_cases (f x
 
 pub flat-intro : {A B : Type 0} (f : A → List B) (xs : List A) (x : A) (y : B) → Memᴰ x xs → Memᴰ y (f x) → Memᴰ y (flat_map f xs)
 unfolding flat_map
+flat-intro {A = A} {B = B} f [] x y x4 m = elim x4 [ ]
 flat-intro f (z ∷ zs) x y (Memᴰ.head e) m = Memᴰ.append_left (flat_map f zs) (rw e at m)
 flat-intro f (z ∷ zs) x y (Memᴰ.tail k) m = Memᴰ.append_right (f z) (flat-intro f zs x y k m)
 
