@@ -1,5 +1,7 @@
 // A set of numbers from 0 to 63, kept as a u64: k is in the set where the bit k is 1.
 // Each function takes every set and every number; a number of 64 or more is in no set.
+#![tactic(auto)]
+
 ghost use Rattle.std.specs.Prelude.{◌≡◌, not, ◌&&◌, ◌||◌, ℕ, eqb};
 ghost use Rattle.bitsets.specs.Set.{member, alone, added, common, listed, disjoint_of, within_of, least_of, size_of};
 

@@ -1,5 +1,7 @@
 // What document 01 says of plans: the file, what it means, the verdict on it, its canonical order, the printed line.
 // The definitions stand in specs/; the verdict is declared here, so that definitions, contracts and code speak of one type.
+#![tactic(auto)]
+
 ghost use Rattle.rules_plan.specs.Promises.{Promises};
 
 // The verdict on a plan file. `number` and `place` of specs/Verdict give document 01's numbers for each case.
