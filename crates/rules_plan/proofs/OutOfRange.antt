@@ -62,6 +62,11 @@ range-asks (reply x) = route-asks x
 -- each of it is a sentence of the row
 route-wrong : (p : Plan) {x : Route} (y : Item) → Gives x y → OutsideRoute x → WrongItem p y 6
 unfolding devices_of ends_of links_of
+route-wrong p (device _) g (inl _) = elim g [ ]
+route-wrong p (link _) g (inl _) = elim g [ ]
+route-wrong p (entry _) g (inl _) = elim g [ ]
+route-wrong p (timing _) g (inl _) = elim g [ ]
+route-wrong p (times _) g (inl _) = elim g [ ]
 route-wrong p (path x) a-path (inl (inl (inl h))) = named-device-over (Memᴰ.head refl) h
 route-wrong p (path x) a-path (inl (inl (inr h))) = named-device-over (Memᴰ.tail (Memᴰ.head refl)) h
 route-wrong p (path x) a-path (inl (inr (n, m, h))) = named-link-over m h

@@ -76,6 +76,11 @@ module _ (p : Plan) where
 
   missing-route : {x : Route} (y : Item) → Gives x y → MissingRoute x → WrongItem p y 8
   unfolding devices_of ends_of links_of
+  missing-route (device _) x4 _ = elim x4 [ ]
+  missing-route (link _) x5 _ = elim x5 [ ]
+  missing-route (entry _) x6 _ = elim x6 [ ]
+  missing-route (timing _) x7 _ = elim x7 [ ]
+  missing-route (times _) x8 _ = elim x8 [ ]
   missing-route (path x) a-path (inl (inl h)) = no-node-wrong (path x) x.start (Memᴰ.head refl) (Memᴰ.head refl) h
   missing-route (path x) a-path (inl (inr h)) = no-node-wrong (path x) x.end (Memᴰ.tail (Memᴰ.head refl)) (Memᴰ.tail (Memᴰ.head refl)) h
   missing-route (path x) a-path (inr (n, m, h)) = no-link m h
