@@ -1,4 +1,6 @@
 // What is read of lent bytes: a number of two or four bytes, a byte as a count, a part of them.
+#![tactic(auto)]
+
 ghost use Rattle.std.specs.Prelude.{◌≡◌, ◌+◌, ◌*◌, ◌≤◌, ◌<◌, length, take, drop};
 ghost use Rattle.rules_plan.specs.Plan.{two, four};
 

@@ -69,6 +69,7 @@ module _ (i : ℕ) where
 
   ended : (t : Option ℕ) (rs : List Record) (r : Record) → NoStarts rs → Memᴰ r rs → i ≡ r.initiator → r.kind ≡ 4 → told_target i t rs ≡ none
   unfolding told_target told_by
+  ended t [] r low x4 own four = elim x4 [ ]
   ended t (s ∷ rs) r low (Memᴰ.head e) own four =
       let here : told_by i t s ≡ none = rw (← e, ← own, four, eq-eqb i i refl) in
       ap (λ (x : Option ℕ). told_target i x rs) here ∙ none_stays rs (λ x m. low x (Memᴰ.tail m))

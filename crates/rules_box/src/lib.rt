@@ -1,5 +1,7 @@
 // What document 01 says of the running box: its state, the events, the answers, the records, and the promises over them.
 // The definitions stand in specs/; the types that cross a call are declared here, so that definitions, contracts and code speak of one type.
+#![tactic(auto)]
+
 ghost use Rattle.rules_box.specs.Samples.{Samples};
 ghost use Rattle.rules_box.specs.Promises.{Promises};
 

@@ -1,5 +1,7 @@
 // What a transaction takes, in nanoseconds, by the terms of document 000 section 4 and their letters: the sheet by itself, and what a path costs
 // whatever the length. `out` is how many routers the command crosses, `home` how many the reply does.
+#![tactic(auto)]
+
 ghost use Rattle.std.specs.Prelude.{◌≡◌, false, ◌-◌, ◌*◌, ◌≤◌};
 ghost use Rattle.rules_plan.specs.Sheet.{quotient_up, reply_address, crossing, header, data_time, reply_time, fixed_time, times_out_of_range, no_sheet, sheet_answer};
 ghost use Rattle.rules_plan.specs.laws.Sheets.{TimesRange};

@@ -1,0 +1,14 @@
+-- `targets_at` meets its contract. Assumes nothing.
+use native.Mathlib.Omega.{arith}
+use borrow.Author.Rules.{rules}
+use Rattle.memory_plan.proofs.entry.Laws.{aim-past-rows, aim-past-slots, aim-told}
+use Rattle.memory_plan.proofs.entry.targets_at.Goals as goal
+
+pub returns-then-row-ge-ROWS : goal.returns-then-row-ge-ROWS
+returns-then-row-ge-ROWS c p ok is = let a = c.args in aim-past-rows p ok a.row a.slot (omega arith)
+
+pub returns-then-slot-ge64 : goal.returns-then-slot-ge64
+returns-then-slot-ge64 c p ok is = let a = c.args in aim-past-slots p ok a.row a.slot (omega arith)
+
+pub returns : goal.returns
+returns c p ok is = let a = c.args in aim-told p ok a.row a.slot (omega arith) (omega arith) a.aims.now is
