@@ -1,4 +1,6 @@
 // An entry: judged after the plan so far, and put at its row and slot and into the summary.
+#![tactic(auto)]
+
 ghost use Rattle.std.specs.Prelude.{◌≡◌, ℕ, ◌<◌, ◌&&◌, List, length, if◌then◌else◌};
 ghost use mathlib.Core.List.{Memᴰ};
 ghost use Rattle.lists.specs.Search.{any, all};

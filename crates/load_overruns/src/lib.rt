@@ -1,4 +1,6 @@
 // Verdict 13: "an entry covers, after its own slot, the slot of another entry of the same initiator".
+#![tactic(auto)]
+
 ghost use Rattle.std.specs.Prelude.{◌≡◌, ℕ, ◌<◌};
 ghost use Rattle.lists.specs.Numbers.{first_from};
 ghost use Rattle.rules_plan.specs.Plan.{Plan};

@@ -1,4 +1,6 @@
 // An entry in the summary of the plan: its slot is put to those of each of its targets, and to those of each span that it is no shorter than.
+#![tactic(auto)]
+
 ghost use Rattle.std.specs.Prelude.{◌≡◌, false, ◌≤◌, ◌<◌, length};
 ghost use Rattle.lists.specs.Search.{any};
 ghost use Rattle.rules_plan.specs.Judge.{over63};

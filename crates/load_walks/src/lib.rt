@@ -1,4 +1,6 @@
 // A walk over links: from a start to an end over routers, meeting no device twice. The links are gone through once, with sets of devices.
+#![tactic(auto)]
+
 ghost use Rattle.std.specs.Prelude.{◌≡◌, ◌≢◌, true, false, ◌&&◌, ◌||◌, ℕ, ◌+◌, ◌*◌, ◌<◌, eqb};
 ghost use mathlib.Core.List.{List, Memᴰ};
 ghost use Rattle.lists.specs.Search.{any, all};

@@ -7,7 +7,7 @@ ghost use Rattle.rules_box.specs.Promises.{Promises};
 
 // "An event is one of: time-code with its byte and clock; request with initiator, target, kind, length; reply with initiator,
 // transaction number, status; clock reading."
-#[derive(Drop)]
+#[derive(Clone, Copy)]
 pub enum Event {
     TimeCode {
         byte: u8,
@@ -30,7 +30,7 @@ pub enum Event {
 }
 
 // What an event answers. `values` of specs/Answer gives document 01's number and values for each case.
-#[derive(Drop)]
+#[derive(Clone, Copy)]
 pub enum Answer {
     // 20 to 29
     Refused {
@@ -60,7 +60,7 @@ pub enum Answer {
 // "The watchdog's five numbers belong to the caller, who lends them and finds them updated: last clock, whether seen, whether
 // reported, least, greatest." Whether seen and whether reported are numbers like the others: 0 is no, all else is yes.
 #[repr(C)]
-#[derive(Drop)]
+#[derive(Clone, Copy)]
 pub struct Watchdog {
     pub last: u32,
     pub seen: u32,

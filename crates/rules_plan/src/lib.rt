@@ -5,7 +5,7 @@
 ghost use Rattle.rules_plan.specs.Promises.{Promises};
 
 // The verdict on a plan file. `number` and `place` of specs/Verdict give document 01's numbers for each case.
-#[derive(Drop)]
+#[derive(Clone, Copy)]
 pub enum Verdict {
     // 0: the four counts
     Accepted {
@@ -34,14 +34,14 @@ pub enum Verdict {
 }
 
 // What a search over the whole plan finds: a verdict, or nothing. `search_of` of specs/Verdict.
-#[derive(Drop)]
+#[derive(Clone, Copy)]
 pub enum Search {
     Nothing,
     Found { verdict: Verdict },
 }
 
 // What writing out answers: refusal 20 or 30, or the size. `sized` of specs/Copy gives document 01's number and size.
-#[derive(Drop)]
+#[derive(Clone, Copy)]
 pub enum Copied {
     NotWritten { number: u8 },
     Written { size: u16 },
@@ -49,7 +49,7 @@ pub enum Copied {
 
 // The sheet of a transaction: its refusal, or the sum of the terms of document 000 section 4 and those of them that are worked out, in
 // nanoseconds. `sheet_numbers` of specs/Sheet gives the number and values of each case.
-#[derive(Drop)]
+#[derive(Clone, Copy)]
 pub enum Sheet {
     NoSheet {
         number: u8,
@@ -65,7 +65,7 @@ pub enum Sheet {
 }
 
 // When the next turn is: the refusal, or how many slots on it is. `next_numbers` of specs/Next gives the number and the count of each case.
-#[derive(Drop)]
+#[derive(Clone, Copy)]
 pub enum Next {
     NoTurn { number: u8 },
     Turn { count: u8 },

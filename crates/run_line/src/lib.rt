@@ -1,5 +1,7 @@
 // The requests in an initiator's line: one joins, the oldest that an entry permits is found, one leaves.
 // Each contract holds for every side that the row is of.
+#![tactic(auto)]
+
 ghost use Rattle.std.specs.Prelude.{◌≡◌, ◌+◌, ◌%◌, ◌<◌, true, [], ◌∷◌, ◌++◌, length, ◌==◌, slice_index};
 ghost use Rattle.lists.specs.Place.{first, without};
 ghost use Rattle.rules_plan.specs.Plan.{Plan, Entry};

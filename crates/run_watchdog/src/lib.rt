@@ -1,2 +1,4 @@
 // The watchdog: its five numbers by value.
+#![tactic(auto)]
+
 pub mod watch;

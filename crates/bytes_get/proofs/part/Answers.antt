@@ -12,7 +12,7 @@ returns-then-len-start c =
     let a = c.args in
     let s = a.file.now in
     let h : length s ≤ a.start = omega arith in
-    simp (drop-length, drop_of_length-le, take-nil) (sym (take-nil a.size))
+    simp (drop-length, drop_of_length-le, take-nil)
 
 pub returns-then-len-start-2 : goal.returns-then-len-start-2
 returns-then-len-start-2 c =

@@ -1,0 +1,14 @@
+-- `c_numbers::copied::sized_numbers` meets its contract. Assumes nothing.
+use mathlib.Core.Path.{sym, ap}
+use Rattle.rules_plan.specs.Copy.{sized}
+use Rattle.c_numbers.specs.Numbers.{sized_numbers}
+use borrow.Author.Rules.{rules}
+use Rattle.c_numbers.proofs.copied.sized_numbers.Goals as goal
+
+pub returns-in-NotWritten : goal.returns-in-NotWritten
+unfolding sized_numbers sized
+returns-in-NotWritten c = sym (ap sized_numbers c.copied-1.given.1)
+
+pub returns-in-Written : goal.returns-in-Written
+unfolding sized_numbers sized
+returns-in-Written c = sym (ap sized_numbers c.copied-in-Written-1.given.1)

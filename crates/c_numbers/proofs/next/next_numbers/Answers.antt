@@ -1,0 +1,13 @@
+-- `next_numbers` meets its contract. Assumes nothing.
+use mathlib.Core.Path.{sym, ap}
+use Rattle.rules_plan.specs.Next.{next_numbers}
+use borrow.Author.Rules.{rules}
+use Rattle.c_numbers.proofs.next.next_numbers.Goals as goal
+
+pub returns-in-NoTurn : goal.returns-in-NoTurn
+unfolding next_numbers
+returns-in-NoTurn c = sym (ap next_numbers c.next-1.given.1)
+
+pub returns-in-Turn : goal.returns-in-Turn
+unfolding next_numbers
+returns-in-Turn c = sym (ap next_numbers c.next-in-Turn-1.given.1)

@@ -1,0 +1,13 @@
+-- `c_numbers::sheet::sheet_numbers` meets its contract. Assumes nothing.
+use mathlib.Core.Path.{sym, ap}
+use Rattle.rules_plan.specs.Sheet.{sheet_numbers}
+use borrow.Author.Rules.{rules}
+use Rattle.c_numbers.proofs.sheet.sheet_numbers.Goals as goal
+
+pub returns-in-NoSheet : goal.returns-in-NoSheet
+unfolding sheet_numbers
+returns-in-NoSheet c = sym (ap sheet_numbers c.sheet-1.given.1)
+
+pub returns-in-Terms : goal.returns-in-Terms
+unfolding sheet_numbers
+returns-in-Terms c = sym (ap sheet_numbers c.sheet-in-Terms-1.given.1)

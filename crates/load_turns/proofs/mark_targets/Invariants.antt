@@ -1,0 +1,15 @@
+-- `mark_targets` meets its contract. Assumes nothing.
+use mathlib.Core.Path.{◌≡◌, refl}
+use Prim.Native.Nat.{◌-◌, ◌≤◌, ◌<◌}
+use native.Mathlib.Omega.{arith}
+use lib.ListN.{length, get_or, take}
+use borrow.Author.Rules.{rules}
+use Rattle.load_turns.specs.Marked.{Marked, is_target}
+use Rattle.load_turns.proofs.Targets.{low-target, targets-begin, targets_next, targets-done}
+use Rattle.load_turns.proofs.mark_targets.Given as goal
+
+abbrev pub invariant-loop-n : goal.invariant-loop-n
+invariant-loop-n l = (l.n ≤ length l.targets) × (length l.initial.aims ≡ 1_152 → Marked (is_target l.row (take l.n l.targets)) l.slot l.initial.aims l.aims)
+
+abbrev pub decreases-loop-n : goal.decreases-loop-n
+decreases-loop-n l = length l.targets - l.n

@@ -1,0 +1,12 @@
+-- `shift` meets its contract: up to place k the places are still the old ones; from there on the first j are the new line's, the
+-- others the old one's. Assumes nothing.
+use Rattle.std.proofs.Common.{◌≡◌, ℕ, ◌+◌, ◌-◌, ◌<◌, ◌≤◌, List, ◌++◌, length, get_or, take, drop, set, refl, ap, ◌∙◌, arith, length-set, rules}
+use Rattle.lists.specs.Place.{without}
+use Rattle.lists.specs.laws.Lines.{move-none, move-next, move-last}
+use Rattle.run_line.proofs.shift.Given as goal
+
+abbrev pub invariant-loop-j : goal.invariant-loop-j
+invariant-loop-j l = (l.j ≤ 7) × (length l.places ≡ 8) × Moved l.k l.initial.places l.places l.j
+
+abbrev pub decreases-loop-j : goal.decreases-loop-j
+decreases-loop-j l = 7 - l.j
