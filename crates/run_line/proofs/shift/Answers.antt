@@ -3,12 +3,8 @@
 use Rattle.std.proofs.Common.{◌≡◌, ℕ, ◌+◌, ◌-◌, ◌<◌, ◌≤◌, List, ◌++◌, length, get_or, take, drop, set, refl, ap, ◌∙◌, arith, length-set, rules}
 use Rattle.lists.specs.Place.{without}
 use Rattle.lists.specs.laws.Lines.{move-none, move-next, move-last}
+use Rattle.run_line.proofs.shift.Invariants.{Moved}
 use Rattle.run_line.proofs.shift.Goals as goal
-
--- the places m before turn j, of the old ones q
-record Moved (k : ℕ) (q m : List ℕ) (j : ℕ) : Type 0 where
-  front : j ≤ k → m ≡ q
-  back : k ≤ j → m ≡ take j (without k q) ++ drop j q
 
 at-place : (k j : ℕ) (q : List ℕ) → j ≡ k → q ≡ take j (without k q) ++ drop j q
 at-place k j q e = rw e (move-none k q)

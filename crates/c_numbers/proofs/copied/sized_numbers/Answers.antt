@@ -7,8 +7,8 @@ use Rattle.c_numbers.proofs.copied.sized_numbers.Goals as goal
 
 pub returns-in-NotWritten : goal.returns-in-NotWritten
 unfolding sized_numbers sized
-returns-in-NotWritten c = sym (ap sized_numbers c.copied-1.given.1)
+returns-in-NotWritten c = sym (ap sized_numbers c.in-NotWritten.is)
 
 pub returns-in-Written : goal.returns-in-Written
 unfolding sized_numbers sized
-returns-in-Written c = sym (ap sized_numbers c.copied-in-Written-1.given.1)
+returns-in-Written c = sym (ap sized_numbers c.in-Written.is)

@@ -6,8 +6,8 @@ use Rattle.c_numbers.proofs.next.next_numbers.Goals as goal
 
 pub returns-in-NoTurn : goal.returns-in-NoTurn
 unfolding next_numbers
-returns-in-NoTurn c = sym (ap next_numbers c.next-1.given.1)
+returns-in-NoTurn c = sym (ap next_numbers c.in-NoTurn.is)
 
 pub returns-in-Turn : goal.returns-in-Turn
 unfolding next_numbers
-returns-in-Turn c = sym (ap next_numbers c.next-in-Turn-1.given.1)
+returns-in-Turn c = sym (ap next_numbers c.in-Turn.is)

@@ -6,8 +6,8 @@ use Rattle.c_numbers.proofs.sheet.sheet_numbers.Goals as goal
 
 pub returns-in-NoSheet : goal.returns-in-NoSheet
 unfolding sheet_numbers
-returns-in-NoSheet c = sym (ap sheet_numbers c.sheet-1.given.1)
+returns-in-NoSheet c = sym (ap sheet_numbers c.in-NoSheet.is)
 
 pub returns-in-Terms : goal.returns-in-Terms
 unfolding sheet_numbers
-returns-in-Terms c = sym (ap sheet_numbers c.sheet-in-Terms-1.given.1)
+returns-in-Terms c = sym (ap sheet_numbers c.in-Terms.is)

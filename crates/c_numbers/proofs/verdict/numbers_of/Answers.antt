@@ -8,16 +8,16 @@ use Rattle.c_numbers.proofs.verdict.numbers_of.Goals as goal
 
 pub returns-in-Accepted : goal.returns-in-Accepted
 unfolding verdict_numbers padded number place
-returns-in-Accepted c = sym (ap verdict_numbers c.verdict-1.given.1)
+returns-in-Accepted c = sym (ap verdict_numbers c.in-Accepted.is)
 
 pub returns-in-Faulty : goal.returns-in-Faulty
 unfolding verdict_numbers padded number place
-returns-in-Faulty c = sym (ap verdict_numbers c.verdict-in-Faulty-1.given.1)
+returns-in-Faulty c = sym (ap verdict_numbers c.in-Faulty.is)
 
 pub returns-in-Overrun : goal.returns-in-Overrun
 unfolding verdict_numbers padded number place
-returns-in-Overrun c = sym (ap verdict_numbers c.verdict-in-Overrun-1.given.1)
+returns-in-Overrun c = sym (ap verdict_numbers c.in-Overrun.is)
 
 pub returns-in-Clash : goal.returns-in-Clash
 unfolding verdict_numbers padded number place
-returns-in-Clash c = sym (ap verdict_numbers c.verdict-in-Clash-1.given.1)
+returns-in-Clash c = sym (ap verdict_numbers c.in-Clash.is)

@@ -19,17 +19,13 @@ use Rattle.bitsets.specs.Set.{member, alone, listed}
 use Rattle.bitsets.specs.Laws.{member-empty, member-or}
 use Rattle.rules_plan.specs.Judge.{over63}
 use Rattle.load_items.proofs.Gathers.{Gathers, gathers-none, none_before, next_low, gathers-next, gathers-all}
+use Rattle.load_items.proofs.several.gather.Invariants.{Passed}
 use Rattle.load_items.proofs.several.gather.Goals as goal
 
 -- a set moved down by a number of it has the lowest bit
 moved_down : (n s : ℕ) → n < 64 → member 0 (s / 2 ^ (n % 64)) ≡ member n s
 unfolding member
 moved_down n s h = let e : n % 64 ≡ n = omega arith in rw (e, div-one (s / 2 ^ n))
-
--- what is known after the first k numbers
-record Passed (s : List ℕ) (over again set k : ℕ) : Type 0 where
-  numbers : Gathers s over set k
-  repeat : any over63 (take k s) ≡ false → member 0 again ≡ twice (take k s)
 
 first : (s : List ℕ) → Passed s 0 0 0 0
 unfolding twice repeats

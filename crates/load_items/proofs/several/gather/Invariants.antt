@@ -21,6 +21,11 @@ use Rattle.rules_plan.specs.Judge.{over63}
 use Rattle.load_items.proofs.Gathers.{Gathers, gathers-none, none_before, next_low, gathers-next, gathers-all}
 use Rattle.load_items.proofs.several.gather.Given as goal
 
+-- what is known after the first k numbers
+pub record Passed (s : List ℕ) (over again set k : ℕ) : Type 0 where
+  pub numbers : Gathers s over set k
+  pub repeat : any over63 (take k s) ≡ false → member 0 again ≡ twice (take k s)
+
 abbrev pub invariant-loop-k : goal.invariant-loop-k
 invariant-loop-k l = Passed l.s l.over l.again l.set l.k
 
