@@ -1,4 +1,6 @@
 // The verdict on a route after the plan so far: on a path, and on the way of a reply.
+#![tactic(auto)]
+
 ghost use Rattle.std.specs.Prelude.{◌≡◌, List, false, ℕ};
 ghost use Rattle.lists.specs.Search.{any};
 ghost use Rattle.rules_plan.specs.Plan.{Plan};

@@ -1,5 +1,7 @@
 // Where a path goes: the row of its initiator, which is made where it has none, and its place in the order of writing out; and where the path
 // of a pair stands.
+#![tactic(auto)]
+
 ghost use Rattle.std.specs.Prelude.{◌≡◌, [], ◌∷◌, ℕ, ◌≤◌, ◌<◌, length};
 ghost use Rattle.lists.specs.Insert.{put_in};
 ghost use Rattle.rules_plan.specs.Plan.{Plan};

@@ -1,4 +1,6 @@
 // Records, put into a lent buffer one behind the other. Nothing is stored beyond its end.
+#![tactic(auto)]
+
 ghost use Rattle.std.specs.Prelude.{◌≡◌, ◌+◌, ◌<◌, ◌≤◌, true, length};
 ghost use mathlib.Core.List.{flat_map};
 ghost use Rattle.lists.specs.Stores.{Put};

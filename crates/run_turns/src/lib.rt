@@ -1,5 +1,7 @@
 // One initiator at a time-code: lateness of what is live, and the start of a request that waits.
 // Each contract holds for every side that the row is of.
+#![tactic(auto)]
+
 ghost use Rattle.std.specs.Prelude.{◌≡◌, false, ◌≤◌, ◌<◌, get_or};
 ghost use Rattle.std.proofs.Math.Option.{some};
 ghost use Rattle.lists.specs.Search.{is_some};

@@ -103,7 +103,7 @@ returns-then-not-has-2 c =
     let n = fresh c.before.before.before.before.before in
     let s = start (tested n) in
     link-to-none (sets s) (ends s) (asked s) (inside (tested n)) (new n) c.union-devices.result c.union-devices.ensures
-    (sym c.has-3.ensures ∙ c.if-not-has-2.true
+    (sym c.has-3.ensures ∙ c.if-not-has-2.true)
 
 pub returns-then-one-other-2 : goal.returns-then-one-other-2
 returns-then-one-other-2 c =

@@ -1,0 +1,35 @@
+-- `start_row` meets its contract: what is found leaves the line. Assumes nothing.
+use mathlib.Core.Path.{sym, ◌∙◌}
+use native.Mathlib.Omega.{arith}
+use borrow.Author.Tests.{eqb-true}
+use Rattle.run_turns.proofs.Starts.{starts-nothing, starts-one}
+use borrow.Author.Rules.{rules}
+use Rattle.run_turns.proofs.start_row.Goals as goal
+
+pub begin_at-requires : goal.begin_at-requires
+begin_at-requires c = (search rules, omega arith, c.permits_oldest.ensures.nonzero c.if-permits_oldest.true)
+
+pub returns-then-permits_oldest : goal.returns-then-permits_oldest
+returns-then-permits_oldest c =
+    let r = c.permits_oldest in
+    let a = c.args in
+    let b = c.begin_at in
+    λ o s f is free e t. starts-one o s f a.row.now is e free 0 (sym (eqb-true _ 0 (sym (r.ensures.value o s f is e t) ∙ c.if-permits_oldest.true))) (omega arith)
+    a.span t.span b.result b.new.row (b.ensures o s f is)
+
+pub returns-then-k-ge-PLACES : goal.returns-then-k-ge-PLACES
+returns-then-k-ge-PLACES c =
+    let r = c.find_row-k in
+    let a = c.args in
+    λ o s f is free e t. starts-nothing o s f a.row.now is e free r.result (r.ensures.value o s f is e t) c.if-k-ge-PLACES.true
+
+pub begin_at-requires-2 : goal.begin_at-requires-2
+begin_at-requires-2 c = (search rules, omega arith, c.find_row-k.ensures.upper_bound (omega arith))
+
+pub returns : goal.returns
+returns c =
+    let r = c.find_row-k in
+    let a = c.args in
+    let b = c.begin_at-2 in
+    λ o s f is free e t. starts-one o s f a.row.now is e free r.result (r.ensures.value o s f is e t) (omega arith)
+    a.span t.span b.result b.new.row (b.ensures o s f is)
