@@ -6,14 +6,14 @@ use borrow.Author.Rules.{rules}
 use Rattle.run_turns.proofs.age_row.Goals as goal
 
 pub returns-then-time-eq0 : goal.returns-then-time-eq0
-returns-then-time-eq0 c = let a = c.args in λ i s f is. ages-none i s f a.row.now is a.in-sequence c.if-time-eq0.true
+returns-then-time-eq0 c = let a = c.args in λ i s f is. ages-none i s f a.row.now is a.in_sequence c.if-time-eq0.true
 
 pub returns-then-is_late : goal.returns-then-is_late
 returns-then-is_late c =
     let m = c.finish_row in
     let l = c.is_late in
     let a = c.args in
-    λ i s f is. ages-late i s f a.row.now is a.in-sequence l.result c.if-time-eq0.false l.ensures.value c.if-is_late.true m.new.row (m.ensures i s f is)
+    λ i s f is. ages-late i s f a.row.now is a.in_sequence l.result c.if-time-eq0.false l.ensures.value c.if-is_late.true m.new.row (m.ensures i s f is)
 
 pub overflow_sub-row : goal.overflow_sub-row
 overflow_sub-row c = omega (arith, c.is_late.ensures.le_time c.if-is_late.false)
@@ -22,4 +22,4 @@ pub returns : goal.returns
 returns c =
     let l = c.is_late in
     let a = c.args in
-    λ i s f is. ages-young i s f a.row.now is a.in-sequence l.result c.if-time-eq0.false l.ensures.value c.if-is_late.false _ refl
+    λ i s f is. ages-young i s f a.row.now is a.in_sequence l.result c.if-time-eq0.false l.ensures.value c.if-is_late.false _ refl

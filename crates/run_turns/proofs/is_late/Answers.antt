@@ -8,7 +8,7 @@ use Rattle.run_turns.proofs.is_late.Goals as goal
 pub returns-then-in_sequence : goal.returns-then-in_sequence
 returns-then-in_sequence c = let a = c.args in record {
   le_time = λ h. ltb-false a.time 512 h;
-  value = λ l f is. late-within l f a.in-sequence a.time is c.if-in_sequence.true;
+  value = λ l f is. late-within l f a.in_sequence a.time is c.if-in_sequence.true;
 }
 
 pub returns-else-in_sequence : goal.returns-else-in_sequence
@@ -16,5 +16,5 @@ returns-else-in_sequence c =
     let a = c.args in
     record {
       le_time = λ h. not-both refl h;
-      value = λ l f is. late-without l f a.in-sequence a.time is c.if-in_sequence.false;
+      value = λ l f is. late-without l f a.in_sequence a.time is c.if-in_sequence.false;
     }
