@@ -16,6 +16,7 @@ use Rattle.rules_plan.specs.Plan.{nth}
 use Rattle.load_path_places.specs.Places.{row_place}
 use Rattle.load_path_places.proofs.insert_row.Invariants.{smaller}
 use Rattle.load_path_places.proofs.insert_row.Goals as goal
+use Rattle.load_path_places.proofs.insert_row.Goals.{else-loop-k-test, then-loop-k-test+then-before-initiator}
 
 -- the row before place k is read as it was
 module _ (rows₀ rows : List ℕ) (count k i : ℕ) (z : 0 < k) (h : k ≤ count) (l : count < length rows₀) (e : rows ≡ moved 1 k count rows₀) where
@@ -51,10 +52,11 @@ returns c =
       search rules,
       λ e f.
           let i = c.loop-k.invariant.1 e f in (
-            ⊎_elim
-                (λ w. sym (past-none _ c.loop-k.k (omega (arith, w.left))) ∙ i.0)
-                (λ w. sym (past-here (smaller a.rows.now a.initiator) c.loop-k.k w.0.taken (smaller-read _ _ _ _ _ w.0.taken (omega arith) (omega arith) i.1 w.2.taken)) ∙ i.0)
-                c.loop-k-test.branch,
+            elim c.loop-k-test.branch [
+              else-loop-k-test w ↦ sym (past-none _ c.loop-k.k (omega (arith, w.loop-k-test.false))) ∙ i.0
+            | then-loop-k-test+then-before-initiator w ↦
+                sym (past-here (smaller a.rows.now a.initiator) c.loop-k.k w.loop-k-test.true (smaller-read _ _ _ _ _ w.loop-k-test.true (omega arith) (omega arith) i.1 w.if-before-initiator.true)) ∙ i.0
+            ],
             ap (λ ys. set ys c.loop-k.k a.initiator) i.1 ∙ moved-set c.loop-k.k a.count a.initiator a.rows.now (omega arith) (omega arith),
             ap (λ ys. set ys c.loop-k.k 0) i.2 ∙ moved-set c.loop-k.k a.count 0 a.reach.now (omega arith) (omega arith),
           ),

@@ -13,4 +13,4 @@ returns c =
     let a = c.args in
     let w = c.wrapping_add_u64 in
     let p = c.put_eight.ensures in
-    (λ o x i< f is. full-puts a.clock a.kind o a.v a.word w.result x i< f is (search rules) (search rules) w.ensures p, p.next, rw w.ensures at p)
+    (λ o x i< f is. full-puts a.clock a.kind o a.v a.word w.result x i< f is (search rules) (search rules) w.ensures.value p, p.next, rw w.ensures.value at p)
