@@ -1,4 +1,6 @@
 // The links that each initiator may use in a slot, worked out as sets.
+#![tactic(auto)]
+
 ghost use Rattle.std.specs.Prelude.{◌≡◌, ◌||◌, ℕ, ◌<◌, min, length};
 ghost use Rattle.lists.specs.Numbers.{any_below};
 ghost use Rattle.bitsets.specs.Set.{member, listed};

@@ -16,6 +16,7 @@ use Rattle.load_entries.proofs.entry.Lts as lts
 use Rattle.load_entries.proofs.entry.Tie as tie
 use Rattle.load_entries.proofs.entry.Reads as reads
 use Rattle.load_entries.proofs.entry.Goals as goal
+use Rattle.load_entries.proofs.entry.Goals.{then-known+else-spans-at-ne0, else-known}
 
 abbrev At-Start : Type 0
 At-Start = lts.Start tie.the-claims reads.Pre reads.Post tie.handed_clauses
@@ -77,9 +78,9 @@ slot-in : (k : After-row_among) → (start k).args.slot < 64
 slot-in k = (entry-range (asked (start k)) (sought k).inside).slot
 
 -- of targets that are none over 63: their set, and whether one stands twice
-told : (k : After-row_among) → let g = (gathered k).gather.result in let x = asked (start k) in
+told : (k : After-row_among) → let g = (gathered k).gather-g.result in let x = asked (start k) in
     (g.again ≡ twice x.targets) × ((j : ℕ) → member j g.set ≡ listed x.targets j)
-told k = let x = asked (start k) in (gathered k).gather.ensures.1 (targets-inside x.initiator x.slot x.span x.targets (sought k).inside)
+told k = let x = asked (start k) in (gathered k).gather-g.ensures.1 (targets-inside x.initiator x.slot x.span x.targets (sought k).inside)
 
 set-fits : (g : After-gather) → g.gather-g.result.set < 2 ^ 64
 set-fits g = search rules
@@ -88,29 +89,29 @@ targets-low : (k : After-row_among) (t : ℕ) → Memᴰ t (asked (start k)).tar
 targets-low k = (entry-range (asked (start k)) (sought k).inside).targets
 
 -- what the set tells: all of them are in another
-targets-within : (k : After-row_among) (w : ℕ) → within_of (gathered k).gather.result.set w ≡ all_in w (asked (start k)).targets
-targets-within k w = within-listed (asked (start k)).targets (gathered k).gather.result.set w (targets-low k) (told k).1
+targets-within : (k : After-row_among) (w : ℕ) → within_of (gathered k).gather-g.result.set w ≡ all_in w (asked (start k)).targets
+targets-within k w = within-listed (asked (start k)).targets (gathered k).gather-g.result.set w (targets-low k) (told k).1
 
 -- whether there is a row, from the test that the code makes
-has-row : (k : After-at_most) → ltb k.row_among-row.result k.at_most.result ≡ true → k.row_among-row.result < rows_in (lent (start k.before))
-has-row k h = omega (arith, ltb-true k.row_among-row.result k.at_most.result h, k.at_most.ensures)
+has-row : (k : After-at_most) → k.row_among-row.result < k.at_most.result → k.row_among-row.result < rows_in (lent (start k.before))
+has-row k h = omega (arith, h, k.at_most.ensures)
 
-no_row : (k : After-at_most) → ltb k.row_among-row.result k.at_most.result ≡ false → rows_in (lent (start k.before)) ≤ k.row_among-row.result
-no_row k h = omega (arith, ltb-false k.row_among-row.result k.at_most.result h, k.at_most.ensures)
+no_row : (k : After-at_most) → k.at_most.result ≤ k.row_among-row.result → rows_in (lent (start k.before)) ≤ k.row_among-row.result
+no_row k h = omega (arith, h, k.at_most.ensures)
 
 -- past the tests of row 7
-free : (t : At-Else4) → Free (lent (start (row t))) (asked (start (row t))) (row t).row-among.result
+free : (t : At-Else4) → Free (lent (start (row t))) (asked (start (row t))) (row t).row_among-row.result
 free t = record {
   sought = sought (row t);
-  alone = λ h. ⊎_elim (λ w. w.2.left) (λ w. absurd (omega (arith, h, no_row t.before.before w.left))) t.if-known.branch;
+  alone = λ h. elim t.if-known.branch [ then-known+else-spans-at-ne0 w ↦ w.if-spans-at-ne0.false | else-known w ↦ absurd (omega (arith, h, no_row t.before.before w.if-known.false)) ];
   once = sym (told (row t)).0 ∙ t.if-g.false;
 }
 
 -- past the test for a row: it is one of the eight, and the index one of the 512
-there : (m : At-Else5) → (row m.before).row-among.result < rows_in (lent (start (row m.before)))
+there : (m : At-Else5) → (row m.before).row_among-row.result < rows_in (lent (start (row m.before)))
 there m = has-row m.before.before.before (m.if-not-known.false)
 
-index_in : (m : At-Else5) → let k = row m.before in k.row-among.result * 64 + (start k).args.slot < 512
+index_in : (m : At-Else5) → let k = row m.before in k.row_among-row.result * 64 + (start k).args.slot < 512
 index_in m = omega (arith, there m, slot-in (row m.before))
 
 pub returns-then-entry_range : goal.returns-then-entry_range
@@ -164,6 +165,6 @@ keep_turns-requires c =
 pub returns : goal.returns
 returns c =
     let k = row c.before.before.before.before.before.before.before.before.before.before.before.before.before in
-    entry-taken (free c.before.before.before.before.before.before.before.before.before.before.before.before.before) (start k).pre (there c.before.before.before.before.before.before.before.before.before.before.before.before) (sym (targets-within k _) ∙ sym c.within.ensures ∙ c.if-not-within.false)
-    (gathered k).gather.result.set (set-fits (gathered k)) (told k).1 c.wrapping_add_u32.result c.wrapping_add_u32.ensures
+    entry-taken (free c.before.before.before.before.before.before.before.before.before.before.before.before.before) (start k).requires (there c.before.before.before.before.before.before.before.before.before.before.before.before) (sym (targets-within k _) ∙ sym c.within.ensures ∙ c.if-not-within.false)
+    (gathered k).gather-g.result.set (set-fits (gathered k)) (told k).1 c.wrapping_add_u32.result c.wrapping_add_u32.ensures.value
     _ c.keep_turns.ensures

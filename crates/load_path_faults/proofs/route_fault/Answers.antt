@@ -22,16 +22,16 @@ use Rattle.load_path_faults.proofs.route_fault.Reads as reads
 use Rattle.load_path_faults.proofs.route_fault.Goals as goal
 
 abbrev After-route_range : Type 0
-After-route_range = lts.After-route_range tie.the-claims reads.Pre reads.Post
+After-route_range = lts.After-route_range tie.the-claims reads.Pre reads.Post tie.handed_clauses
 
 abbrev At-Else1 : Type 0
-At-Else1 = lts.Else1 tie.the-claims reads.Pre reads.Post
+At-Else1 = lts.Else1 tie.the-claims reads.Pre reads.Post tie.handed_clauses
 
 abbrev At-Else2 : Type 0
-At-Else2 = lts.Else2 tie.the-claims reads.Pre reads.Post
+At-Else2 = lts.Else2 tie.the-claims reads.Pre reads.Post tie.handed_clauses
 
 abbrev At-Else5 : Type 0
-At-Else5 = lts.Else5 tie.the-claims reads.Pre reads.Post
+At-Else5 = lts.Else5 tie.the-claims reads.Pre reads.Post tie.handed_clauses
 
 -- the route that is judged
 judged : After-route_range → Route
@@ -120,7 +120,7 @@ returns-then-not-within c =
 pub returns-then-many : goal.returns-then-many
 unfolding judged new
 returns-then-many c = record {
-  value = λ p f a b. fault-9 p _ _ _ _ (ranged (new c.before.before).before) (new c.before.before).if2.false (known c.before.before p a) c.if-many.true;
+  value = λ p f a b. fault-9 p _ _ _ _ (ranged (new c.before.before).before) (new c.before.before).if-again.false (known c.before.before p a) c.if-many.true;
   again_value = λ e. absurd (omega arith);
 }
 
@@ -128,7 +128,7 @@ pub returns-then-not-t : goal.returns-then-not-t
 unfolding judged new
 returns-then-not-t c =
     let o = (new c.before.before.before.before).before in record {
-      value = λ p f a b. fault-10 p _ _ _ _ (ranged o) (new c.before.before.before.before).if2.false (known c.before.before.before.before p a) c.if-many.false (sym (o.trace.ensures.2 p f (low o).start (links-known c.before.before.before.before p a) a b) ∙ c.if-not-t.true);
+      value = λ p f a b. fault-10 p _ _ _ _ (ranged o) (new c.before.before.before.before).if-again.false (known c.before.before.before.before p a) c.if-many.false (sym (o.trace-t.ensures.2 p f (low o).start (links-known c.before.before.before.before p a) a b) ∙ not-true _ c.if-not-t.true);
       again_value = λ e. absurd (omega arith);
     }
 
@@ -136,7 +136,7 @@ pub returns-then-alone : goal.returns-then-alone
 unfolding judged new
 returns-then-alone c =
     let o = (new c.before.before.before.before.before).before in record {
-      value = λ p f a b. fault-11 p _ _ _ _ (ranged o) (new c.before.before.before.before.before).if2.false (known c.before.before.before.before.before p a) c.if-many.false (sym (o.trace.ensures.2 p f (low o).start (links-known c.before.before.before.before.before p a) a b) ∙ c.if-not-t.false) c.if-alone.true;
+      value = λ p f a b. fault-11 p _ _ _ _ (ranged o) (new c.before.before.before.before.before).if-again.false (known c.before.before.before.before.before p a) c.if-many.false (sym (o.trace-t.ensures.2 p f (low o).start (links-known c.before.before.before.before.before p a) a b) ∙ not-false _ c.if-not-t.false) c.if-alone.true;
       again_value = λ e. absurd (omega arith);
     }
 
@@ -144,6 +144,6 @@ pub returns : goal.returns
 unfolding judged new
 returns c =
     let o = (new c.before.before.before.before.before).before in record {
-      value = λ p f a b. fault-none p _ _ _ _ (ranged o) (new c.before.before.before.before.before).if2.false (known c.before.before.before.before.before p a) c.if-many.false (sym (o.trace.ensures.2 p f (low o).start (links-known c.before.before.before.before.before p a) a b) ∙ c.if-not-t.false) c.if-alone.false;
-      again_value = λ e. ((new c.before.before.before.before.before).if2.false, c.if-many.false, c.if-alone.false);
+      value = λ p f a b. fault-none p _ _ _ _ (ranged o) (new c.before.before.before.before.before).if-again.false (known c.before.before.before.before.before p a) c.if-many.false (sym (o.trace-t.ensures.2 p f (low o).start (links-known c.before.before.before.before.before p a) a b) ∙ not-false _ c.if-not-t.false) c.if-alone.false;
+      again_value = λ e. ((new c.before.before.before.before.before).if-again.false, c.if-many.false, c.if-alone.false);
     }

@@ -4,8 +4,7 @@ use Prim.Native.Nat.{ℕ, ◌≤◌, ◌<◌}
 use native.Mathlib.Omega.{arith}
 use borrow.Author.Tests.{eq-eqb, ne_eqb, le-leb, lt-leb}
 use Rattle.rules_box.specs.Turn.{class}
-use Rattle.run_requests.proofs.ending.class_of.Statement.{statement}
-use Rattle.run_requests.proofs.ending.class_of.Tie as tie
+use Rattle.run_requests.proofs.ending.class_of.Goals as goal
 
 low : (n : ℕ) → 0 < n → n ≤ 7 → 1 ≡ class n
 unfolding class
@@ -23,21 +22,18 @@ top : (n : ℕ) → 12 < n → 2 ≡ class n
 unfolding class
 top n a = rw (ne_eqb n 0 (λ e. omega arith), lt-leb n 7 (omega arith), le-leb 9 n (omega arith), lt-leb n 12 a)
 
-returns : tie.Need-returns
+pub returns-in-0 : goal.returns-in-0
 unfolding class
-returns c = rw (eq-eqb c.before.args.status 0 (omega arith))
+returns-in-0 c = rw (eq-eqb c.args.status 0 (omega arith))
 
-returns-2 : tie.Need-returns-2
-returns-2 c = eight c.before.before.before.args.status (omega arith) (omega arith)
+pub returns-in_default : goal.returns-in_default
+returns-in_default c = eight c.args.status (omega arith) (omega arith)
 
-returns-3 : tie.Need-returns-3
-returns-3 c = top c.before.before.before.before.args.status (omega arith)
+pub returns-in_default-2 : goal.returns-in_default-2
+returns-in_default-2 c = top c.args.status (omega arith)
 
-returns-4 : tie.Need-returns-4
-returns-4 c = low c.before.before.args.status (omega arith) (omega arith)
+pub returns-in-1-to-7 : goal.returns-in-1-to-7
+returns-in-1-to-7 c = low c.args.status (omega arith) (omega arith)
 
-returns-5 : tie.Need-returns-5
-returns-5 c = high c.before.before.before.before.args.status (omega arith) (omega arith)
-
-pub class-of-spec : {M : Type 1} → statement M
-class-of-spec = tie.close (tie.spec returns returns-2 returns-3 returns-4 returns-5)
+pub returns-in-1-to-7-2 : goal.returns-in-1-to-7-2
+returns-in-1-to-7-2 c = high c.args.status (omega arith) (omega arith)

@@ -1,0 +1,18 @@
+-- `slot_links::lanes_in` meets its contract. The loop's invariant: the rows passed have their sets.
+-- Assumes nothing.
+use mathlib.Core.Path.{◌≡◌, ◌∙◌}
+use Prim.Native.Nat.{◌≤◌, ◌-◌}
+use native.Mathlib.Omega.{arith}
+use lib.ListN.{length, length-set}
+use borrow.Author.Rules.{rules}
+use Rattle.rules_plan.specs.Plan.{Plan}
+use Rattle.load_slot_links.specs.Lanes.{Searched}
+use Rattle.load_slot_links.specs.laws.Lanes.{Filled, filled_more, filled-all}
+use Rattle.load_slot_links.proofs.lanes_in.Given as goal
+
+abbrev pub invariant-loop-row : goal.invariant-loop-row
+invariant-loop-row l =
+    (l.row ≤ 8) × (length l.lanes ≡ 8) × ((p : Plan) → Searched p l.rows l.paths l.spans l.aims l.numbers → Filled p l.slot l.lanes l.row)
+
+abbrev pub decreases-loop-row : goal.decreases-loop-row
+decreases-loop-row l = 8 - l.row
