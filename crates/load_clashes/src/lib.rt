@@ -1,4 +1,6 @@
 // Verdict 14: two initiators clash. The sets of links that the initiators may use in a slot are compared.
+#![tactic(auto)]
+
 ghost use Rattle.std.specs.Prelude.{◌≡◌, ℕ, ◌+◌, ◌-◌, ◌<◌};
 ghost use Rattle.std.proofs.Math.Option.{none};
 ghost use Rattle.lists.specs.Numbers.{first_from};

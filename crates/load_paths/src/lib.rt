@@ -1,4 +1,6 @@
 // A path: what is asked of memory before it is judged; and, without a fault, put at its place in the order of writing out.
+#![tactic(auto)]
+
 ghost use Rattle.std.specs.Prelude.{◌≡◌, false, ◌||◌, ℕ, ◌≤◌, ◌<◌, length, leb};
 ghost use Rattle.std.proofs.Math.Seq.{paste};
 ghost use Rattle.lists.specs.Insert.{moved};

@@ -1,2 +1,4 @@
 // The printed verdict: one line in a lent buffer.
+#![tactic(auto)]
+
 pub mod print;

@@ -37,4 +37,4 @@ returns c =
     λ b spans aims last f room w.
     ends f room w a.initiator a.number a.status r.result
     (λ size p ok rs ns. row_told p ok size a.rows.now a.numbers.now rs ns a.initiator r.result r.ensures e.false)
-    (omega arith) m.result size m.new.0 (omega arith) m.ensures
+    (omega arith) m.result size m.new.row (omega arith) m.ensures
