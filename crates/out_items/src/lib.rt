@@ -1,5 +1,7 @@
 // Devices, links, intervals and times in memory as fields of a file again, in a lent buffer.
 // No function here stores a byte that has no room, whatever the memory holds.
+#![tactic(auto)]
+
 ghost use mathlib.Core.List.{flat_map};
 ghost use Rattle.lists.specs.Search.{below64};
 ghost use Rattle.lists.specs.Puts.{Puts};

@@ -18,7 +18,7 @@ unfolding meets
 returns-then-not-disjoint c =
     let i = c.args.i in
     let lanes = c.args.lanes.now in
-    first-here (7 - i) (i + 1) (meets lanes i) c.loop-j.j (omega arith) (omega arith) (ap not (sym c.disjoint.ensures) ∙ c.if-not-disjoint.true) (λ m h g. c.loop-j.invariant.2 m g h)
+    first-here (7 - i) (i + 1) (meets lanes i) c.loop-j.j (omega arith) (omega arith) (ap not (sym c.disjoint.ensures ∙ c.if-not-disjoint.true)) (λ m h g. c.loop-j.invariant.2 m g h)
 
 pub loop-j-preserved : goal.loop-j-preserved
 unfolding meets
@@ -27,7 +27,7 @@ loop-j-preserved c =
     let lanes = c.args.lanes.now in (
       omega arith,
       omega arith,
-      below_more (λ m. i + 1 ≤ m → meets lanes i m ≡ false) c.loop-j.j c.loop-j.invariant.2 (λ _. ap not (sym c.disjoint.ensures) ∙ c.if-not-disjoint.false),
+      below_more (λ m. i + 1 ≤ m → meets lanes i m ≡ false) c.loop-j.j c.loop-j.invariant.2 (λ _. ap not (sym c.disjoint.ensures ∙ c.if-not-disjoint.false)),
     )
 
 pub returns : goal.returns

@@ -57,7 +57,7 @@ returns c = λ e f g.
     let x = route a.initiator a.target a.links.now in
     let m = c.own_row-row.ensures.2 e f in (
       m.1,
-      reach-stored _ _ _ _ _ _ x m.0 m.2 c.add.type-inv c.add.ensures,
+      reach-stored _ _ _ _ _ _ x m.0 m.2 c.add.type_inv c.add.ensures,
       paths-stored _ _ _ _ _ _ x g c.requires.3 (three c.before.before.before.before.before.before.before.before.before.before.before) c.requires.2 c.place_of-k.ensures c.make_room.ensures c.store_path.ensures,
       numbers-stored _ _ _ _ c.own_row-row.ensures.1,
     )

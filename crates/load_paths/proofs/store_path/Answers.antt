@@ -16,6 +16,7 @@ use Rattle.rules_plan.specs.Plan.{nth}
 use Rattle.memory_plan.specs.Memory.{path_row}
 use Rattle.load_path_faults.specs.Routes.{route}
 use Rattle.load_paths.proofs.store_path.Goals as goal
+use Rattle.load_paths.proofs.store_path.Goals.{then-k-n, else-k-n}
 
 -- the first three bytes
 first_three : (p : List ℕ) (at i t n : ℕ) → at + 3 ≤ length p → set (set (set p at i) (at + 1) t) (at + 2) n ≡ paste p at (i ∷ t ∷ n ∷ []) 3
@@ -42,10 +43,11 @@ loop-k-preserved c = (
   λ e.
       let a = c.args in
       let q = c.loop-k.invariant.1 e in
-      ⊎_elim
-      (λ w. w.2 ∙ one_link _ _ a.links.now (a.at + 3) c.loop-k.k _ (omega arith) (omega arith) (omega arith) q refl)
-      (λ w. w.1 ∙ one_link _ _ a.links.now (a.at + 3) c.loop-k.k _ (omega arith) (omega arith) (omega arith) q (sym (get_or-eq_default a.links.now 0 w.0.left)))
-      c.if-k-n.branch,
+      elim c.if-k-n.branch [
+        then-k-n w ↦ w.paths-is ∙ one_link _ _ a.links.now (a.at + 3) c.loop-k.k _ (omega arith) (omega arith) (omega arith) q refl
+      | else-k-n w ↦
+          w.paths-is ∙ one_link _ _ a.links.now (a.at + 3) c.loop-k.k _ (omega arith) (omega arith) (omega arith) q (sym (get_or-eq_default a.links.now 0 w.if-k-n.false))
+      ],
 )
 
 pub returns : goal.returns
