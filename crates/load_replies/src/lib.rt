@@ -1,5 +1,7 @@
 // A reply that comes home another way: what is asked of memory before it is judged; and, without a fault, kept in a row behind that of its path, with
 // the fixed time of its pair.
+#![tactic(auto)]
+
 ghost use Rattle.std.specs.Prelude.{◌≡◌, ℕ, ◌≤◌, ◌<◌, length};
 ghost use Rattle.rules_plan.specs.Plan.{Route, Plan, reply, grow};
 ghost use Rattle.memory_plan.specs.Memory.{rows_of, paths_of, numbers_with};

@@ -30,7 +30,7 @@ unfolding digit
 loop-rest-preserved c =
     let a = c.args in
     walk-next c.loop-rest.invariant c.loop-rest-test.true c.without_least-rest.result c.without_least-rest.ensures (search rules)
-    c.least-n.ensures (device-on a.nodes a.routers c.union-rest.result c.union-rest.ensures c.least-n.result) c.put-k.auto.0 (rw c.has.ensures at c.put-k.ensures)
+    c.least-n.ensures (device-on a.nodes a.routers c.union-rest.result c.union-rest.ensures c.least-n.result) c.put-k.auto.out (rw c.has.ensures at c.put-k.ensures)
 
 pub shape_of-out : goal.shape_of-out
 shape_of-out c = c.loop-rest.invariant.turns.same

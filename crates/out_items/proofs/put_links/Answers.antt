@@ -38,7 +38,7 @@ pub loop-rest-preserved : goal.loop-rest-preserved
 loop-rest-preserved c =
     let a = c.args in
     walk-next c.loop-rest.invariant c.loop-rest-test.true c.without_least-rest.result c.without_least-rest.ensures (search rules)
-    c.least-n.ensures (link_on a.links a.ends.now c.least-n.result) c.put-k.auto.0 c.put-k.ensures
+    c.least-n.ensures (link_on a.links a.ends.now c.least-n.result) c.put-k.auto.out c.put-k.ensures
 
 pub shape_of-out : goal.shape_of-out
 shape_of-out c = c.loop-rest.invariant.turns.same

@@ -18,16 +18,16 @@ printed v e p = rw e (put_front p.0 (omega (arith, p.0.next)))
 
 pub returns-in-Accepted : goal.returns-in-Accepted
 unfolding text numbers words place line flat_map
-returns-in-Accepted c = printed c.args.v (ap line c.v-1.given.1) c.put_line.ensures
+returns-in-Accepted c = printed c.args.v (ap line c.in-Accepted.is) c.put_line.ensures
 
 pub returns-in-Faulty : goal.returns-in-Faulty
 unfolding text numbers words place line flat_map
-returns-in-Faulty c = printed c.args.v (ap line c.v-in-Faulty-1.given.1) c.put_line-in-Faulty.ensures
+returns-in-Faulty c = printed c.args.v (ap line c.in-Faulty.is) c.put_line-in-Faulty.ensures
 
 pub returns-in-Overrun : goal.returns-in-Overrun
 unfolding text numbers words place line flat_map
-returns-in-Overrun c = printed c.args.v (ap line c.v-in-Overrun-1.given.1) c.put_line-in-Overrun.ensures
+returns-in-Overrun c = printed c.args.v (ap line c.in-Overrun.is) c.put_line-in-Overrun.ensures
 
 pub returns-in-Clash : goal.returns-in-Clash
 unfolding text numbers words place line flat_map
-returns-in-Clash c = printed c.args.v (ap line c.v-in-Clash-1.given.1) c.put_line-in-Clash.ensures
+returns-in-Clash c = printed c.args.v (ap line c.in-Clash.is) c.put_line-in-Clash.ensures

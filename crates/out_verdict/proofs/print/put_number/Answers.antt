@@ -9,7 +9,7 @@ use Rattle.bytes_put.specs.laws.Decimal.{decimal-length}
 use Rattle.out_verdict.proofs.print.put_number.Goals as goal
 
 pub shape_of-out : goal.shape_of-out
-shape_of-out c = c.put_decimal.auto.0 ∙ simp length-set
+shape_of-out c = c.put_decimal.auto.out ∙ simp length-set
 
 pub returns : goal.returns
 unfolding spaced
