@@ -1,5 +1,7 @@
 // Paths, replies and entries in memory as fields of a file again, row by row and cell by cell, in a lent buffer.
 // No function here stores a byte that has no room, whatever the memory holds.
+#![tactic(auto)]
+
 ghost use Rattle.std.specs.Prelude.{◌≡◌, true, ℕ, ◌+◌, ◌%◌, ◌≤◌, ◌<◌, length};
 ghost use mathlib.Core.List.{flat_map};
 ghost use Rattle.lists.specs.Search.{up_from};

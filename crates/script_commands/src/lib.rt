@@ -1,4 +1,6 @@
 // The script that `replay` reads: a line as a command.
+#![tactic(auto)]
+
 ghost use Rattle.script_commands.specs.Samples.{Samples};
 
 pub mod command;

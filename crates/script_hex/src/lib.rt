@@ -1,4 +1,6 @@
 // Bytes in lowercase hex: those of a word, and bytes put into an answer line.
+#![tactic(auto)]
+
 ghost use Rattle.std.specs.Prelude.{◌≡◌, ◌++◌, ◌<◌, length, drop};
 ghost use Rattle.lists.specs.Search.{all, is_some};
 ghost use Rattle.lists.specs.Puts.{Puts};

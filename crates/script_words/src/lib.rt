@@ -1,4 +1,6 @@
 // The words of a line, the numbers that they are, and numbers put into an answer line.
+#![tactic(auto)]
+
 ghost use Rattle.std.specs.Prelude.{◌≡◌, ◌≤◌, length, drop};
 ghost use Rattle.lists.specs.Puts.{Puts};
 ghost use Rattle.script_words.specs.Words.{number_of};

@@ -1,0 +1,20 @@
+-- `writing_rows::put_paths` meets its contract. The loop's invariant: the fields of the first n rows are put. Assumes nothing.
+use Prim.Native.Nat.{◌-◌}
+use Rattle.out_rows.specs.Out.{row_bytes}
+use borrow.Author.Rules.{rules}
+use Rattle.lists.specs.laws.Puts.{Turns, turns-begin, turns_next, turns-done}
+use Rattle.out_rows.proofs.put_paths.Goals as goal
+
+pub loop-n-init : goal.loop-n-init
+loop-n-init c = let a = c.args in turns-begin (row_bytes a.tag a.paths.now a.first) a.rows a.out.now a.at
+
+pub loop-n-preserved : goal.loop-n-preserved
+unfolding row_bytes
+loop-n-preserved c =
+    turns_next c.loop-n.invariant (search rules) c.put_path-k.auto.out c.put_path-k.ensures
+
+pub shape_of-out : goal.shape_of-out
+shape_of-out c = c.loop-n.invariant.same
+
+pub returns : goal.returns
+returns c = turns-done c.loop-n.invariant c.loop-n-test.false

@@ -1,0 +1,15 @@
+-- `words::put_numbers` meets its contract. The loop's invariant: of the numbers behind the first those up to place i are put. Assumes nothing.
+use mathlib.Core.Path.{◌≡◌, refl, ◌∙◌}
+use Prim.Native.Nat.{◌-◌, ◌≤◌}
+use native.Mathlib.Omega.{arith}
+use lib.ListN.{length}
+use borrow.Author.Rules.{rules}
+use Rattle.lists.specs.Puts.{Puts}
+use Rattle.script_words.proofs.Rows.{behind_first, no-numbers, first-number, next-number, every-number}
+use Rattle.script_words.proofs.put_numbers.Given as goal
+
+abbrev pub invariant-loop-i : goal.invariant-loop-i
+invariant-loop-i l = (1 ≤ l.i) × (l.i ≤ length l.ns) × (length l.out ≡ length l.initial.out) × Puts l.initial.out l.initial.k (behind_first l.ns l.i) l.out l.k
+
+abbrev pub decreases-loop-i : goal.decreases-loop-i
+decreases-loop-i l = length l.ns - l.i
