@@ -75,7 +75,7 @@ returns-then-left-size c =
 
 pub returns-then-not-is_tag : goal.returns-then-not-is_tag
 unfolding first_of
-returns-then-not-is_tag c = whole c.before.before.before.before (ap not (sym c.is_tag.ensures ∙ c.if-not-is_tag.true) refl refl
+returns-then-not-is_tag c = whole c.before.before.before.before (ap not (sym c.is_tag.ensures ∙ c.if-not-is_tag.true)) refl refl
 
 pub returns-then-tag-before : goal.returns-then-tag-before
 unfolding first_of
@@ -84,7 +84,7 @@ returns-then-tag-before c = known c.before.before (falls _ _ c.if-tag-before.tru
 pub returns-then-comes_once : goal.returns-then-comes_once
 unfolding first_of
 returns-then-comes_once c =
-    known c.before.before.before.before.before (comes-again _ _ c.if-tag-before-2.true (sym c.comes_once.ensures ∙ c.if-comes_once.true) refl
+    known c.before.before.before.before.before (comes-again _ _ c.if-tag-before-2.true (sym c.comes_once.ensures ∙ c.if-comes_once.true)) refl
 
 pub returns-then-not-length_allowed : goal.returns-then-not-length_allowed
 unfolding first_of
