@@ -1,2 +1,4 @@
 // Writing out: the plan in memory as a file again.
+#![tactic(auto)]
+
 pub mod out;

@@ -1,14 +1,16 @@
 // verdict: reads a plan from standard input to its end and prints its verdict, one line.
 // A read error is said on standard error, and no verdict is printed. So is a line that cannot be written, and an input that
 // begins with no tag, which is text or another file by mistake.
+#![tactic(auto)]
+
 ghost use Rattle.std.specs.Prelude.{◌≡◌, ◌++◌, ◌≤◌, length, drop};
 ghost use Rattle.rules_plan.specs.Judge.{judge};
 ghost use Rattle.rules_plan.specs.Print.{line};
 
-use libc::{STDERR_FILENO, STDIN_FILENO, STDOUT_FILENO};
 use load_plan::load::load;
 use memory_plan::layout::*;
 use out_verdict::print::print_verdict;
+use std::io::{Read, Write};
 
 // How much of standard input came, and whether a read failed.
 #[derive(Drop)]
@@ -18,19 +20,20 @@ struct Input {
 }
 
 // Reads until the buffer is full, the input ends or a read fails; a read may bring fewer bytes than there is room for.
-fn read_all(buf: &mut [u8]) -> Input
+fn read_all(input: &mut impl Read, buf: &mut [u8]) -> Input
     ensures { result.len ≤ length buf.new }
 {
     let mut n = 0;
     while n < buf.len() {
-        let got = libc::read(STDIN_FILENO, &mut buf[n..]);
-        if got < 0 {
-            return Input {
-                len: n,
-                failed: true,
-            };
-        }
-        let k = io::count(got, &buf[n..]);
+        let k = match input.read(&mut buf[n..]) {
+            Ok(k) => k,
+            Err(_) => {
+                return Input {
+                    len: n,
+                    failed: true,
+                };
+            }
+        };
         if k == 0 {
             return Input {
                 len: n,
@@ -71,29 +74,31 @@ fn line_of(file: &[u8], out: &mut [u8; 40]) -> usize
     print_verdict(out, verdict)
 }
 
+// Whether all of the bytes were written.
+fn put(out: &mut impl Write, bytes: &[u8]) -> bool {
+    out.write_all(bytes).is_ok()
+}
+
 // Says on standard error what a person should know beside the verdict. A plan file begins with a tag, 01 to 07.
-fn tell(first: u8, written: bool) {
+fn tell(errors: &mut impl Write, first: u8, written: bool) {
     if !written {
-        io::write_all(
-            STDERR_FILENO,
-            b"verdict: standard output could not be written\n",
-        );
+        put(errors, b"verdict: standard output could not be written\n");
     }
     if first > 7 {
-        io::write_all(
-            STDERR_FILENO,
+        put(
+            errors,
             b"verdict: this begins with no tag of a plan file; of a plan in text, spwd-compile makes the file\n",
         );
     }
 }
 
 // One byte more than a plan may have is read, so that a longer input is judged as too long.
-fn main() {
+fn main(rt: HostRuntime) {
     let mut buf = [0u8; 16385];
-    let input = read_all(&mut buf);
+    let input = read_all(&mut rt.stdin(), &mut buf);
     if input.failed {
-        io::write_all(
-            STDERR_FILENO,
+        put(
+            &mut rt.stderr(),
             b"verdict: standard input could not be read\n",
         );
         return;
@@ -101,6 +106,6 @@ fn main() {
     let n = input.len;
     let mut out = [0u8; 40];
     let k = line_of(&buf[..n], &mut out);
-    let written = io::write_all(STDOUT_FILENO, &out[..k]);
-    tell(buf[0], written);
+    let written = put(&mut rt.stdout(), &out[..k]);
+    tell(&mut rt.stderr(), buf[0], written);
 }

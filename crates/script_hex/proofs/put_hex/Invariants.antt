@@ -1,0 +1,19 @@
+-- `hex::put_hex` meets its contract. The loop's invariant: the first i bytes are put. Assumes nothing.
+use mathlib.Core.Path.{◌≡◌}
+use mathlib.Core.List.{flat_map}
+use Prim.Native.Nat.{◌+◌, ◌-◌, ◌*◌, ◌≤◌}
+use native.Mathlib.Omega.{arith}
+use lib.ListN.{length, take, length-set}
+use borrow.Author.Rules.{rules}
+use Rattle.lists.specs.Stores.{Put}
+use Rattle.lists.specs.laws.Stores.{put-none, put-length}
+use Rattle.rules_plan.specs.Print.{text}
+use Rattle.script_hex.specs.Hex.{hex_byte}
+use Rattle.script_hex.proofs.Text.{no_bytes, no_room, byte_more, every_byte}
+use Rattle.script_hex.proofs.put_hex.Given as goal
+
+abbrev pub invariant-loop-i : goal.invariant-loop-i
+invariant-loop-i l = (l.i ≤ length l.bytes) × (l.k ≡ l.at + 2 * l.i) × Put l.initial.out l.at (flat_map hex_byte (take l.i l.bytes)) l.out l.k
+
+abbrev pub decreases-loop-i : goal.decreases-loop-i
+decreases-loop-i l = length l.bytes - l.i
