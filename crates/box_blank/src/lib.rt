@@ -4,8 +4,8 @@ ghost use Rattle.rules_plan.specs.Plan.{blank};
 ghost use Rattle.memory_plan.specs.Memory as plan;
 ghost use Rattle.rules_box.specs.State.{cleared, watchdog_cleared};
 ghost use Rattle.box_calls.specs.Box.{Holds};
-ghost use Rattle.memory_plan.specs.Lent.{at_entry};
-ghost use Rattle.box_calls.specs.Calls.{At, lent_in};
+ghost use Rattle.memory_plan.specs.Lent.{at_now};
+ghost use Rattle.box_calls.specs.Calls.{At, shown_in};
 
 use memory_plan::layout::*;
 use memory_run::layout::*;
@@ -22,7 +22,7 @@ fn plan_blank(
     aims: &Aims,
     numbers: &Numbers,
 ) -> bool
-    ensures { (result ≡ true) ↔ at_entry (plan.Holds blank) sets ends rows reach paths spans aims numbers }
+    ensures { (result ≡ true) ↔ at_now (plan.Holds blank) sets ends rows reach paths spans aims numbers }
 {
     if !lists::words::zero(sets) {
         return false;
@@ -90,7 +90,7 @@ pub fn is_blank(
     last: &Last,
     watchdog: Watchdog,
 ) -> bool
-    ensures { (result ≡ true) ↔ ((watchdog ≡ watchdog_cleared) × At (lent_in sets ends rows reach paths spans aims numbers run last) cleared) }
+    ensures { (result ≡ true) ↔ ((watchdog ≡ watchdog_cleared) × At (shown_in sets ends rows reach paths spans aims numbers run last) cleared) }
 {
     if !plan_blank(sets, ends, rows, reach, paths, spans, aims, numbers) {
         return false;

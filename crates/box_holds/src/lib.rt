@@ -2,7 +2,7 @@
 ghost use Rattle.std.specs.Prelude.{◌≡◌, ◌↔◌, true};
 ghost use Rattle.memory_plan.specs.Memory.{Holds};
 ghost use Rattle.load_plan.specs.Load.{plan_left, HoldsPlanOf};
-ghost use Rattle.memory_plan.specs.Lent.{at_entry, at_exit};
+ghost use Rattle.memory_plan.specs.Lent.{at_exit, at_now};
 
 use memory_plan::interval::is_loaded;
 use memory_plan::layout::*;
@@ -75,7 +75,7 @@ pub fn holds(
     other_aims: &mut Aims,
     other_numbers: &mut Numbers,
 ) -> bool
-    ensures variant { (result ≡ true) ↔ at_entry (HoldsPlanOf file.now) sets ends rows reach paths spans aims numbers }
+    ensures variant { (result ≡ true) ↔ at_now (HoldsPlanOf file.now) sets ends rows reach paths spans aims numbers }
     ensures at_exit { at_exit (Holds (plan_left file.now)) other_sets other_ends other_rows other_reach other_paths other_spans other_aims other_numbers }
 {
     load_plan::load::load(

@@ -1,4 +1,6 @@
 // The fields of a file, front to back, up to the first fault: each is judged and then kept in plan memory.
+#![tactic(auto)]
+
 ghost use Rattle.std.specs.Prelude.{◌≡◌, ◌⊎◌, ◌≢◌, true, [], ℕ, ◌≤◌, length};
 ghost use Rattle.std.proofs.Math.Option.{some};
 ghost use Rattle.rules_plan.specs.Plan.{Plan, Item, blank};

@@ -2,7 +2,7 @@
 ghost use Rattle.std.specs.Prelude.{◌≡◌, ℕ, ◌≤◌, length, replicate, List, []};
 ghost use Rattle.box_calls.specs.Calls.{memory, lent_in, left_in};
 ghost use Rattle.load_plan.specs.Load.{HoldsPlanOf};
-ghost use Rattle.memory_plan.specs.Lent.{at_entry};
+ghost use Rattle.memory_plan.specs.Lent.{at_now};
 ghost use Rattle.script_hex.specs.Hex.{decoded};
 ghost use Rattle.script_commands.specs.Script.{command_of};
 ghost use Rattle.script_answers.specs.Texts.{over_long_line, Prints};
@@ -220,7 +220,7 @@ fn holds(
     numbers: &Numbers,
     out: &mut [u8; 65600],
 ) -> usize
-    ensures { Answers (Says (at_entry (HoldsPlanOf (decoded 16_400 word.now)) sets ends rows reach paths spans aims numbers)) out.old out.new result }
+    ensures { Answers (Says (at_now (HoldsPlanOf (decoded 16_400 word.now)) sets ends rows reach paths spans aims numbers)) out.old out.new result }
 {
     let mut file = file_room();
     let size = decode(word, &mut file);

@@ -1,7 +1,7 @@
 // What the lamp on the jig and the reread at the counter ask, as C calls it: 1 for yes, 0 for no.
-ghost use Rattle.box_calls.specs.Calls.{lent_in};
+ghost use Rattle.box_calls.specs.Calls.{shown_in};
 ghost use Rattle.spwd_c.specs.Exports.{IsBlank, HoldsIt};
-ghost use Rattle.memory_plan.specs.Lent.{at_entry, at_exit};
+ghost use Rattle.memory_plan.specs.Lent.{at_exit, at_now};
 
 use box_blank::is_blank;
 use box_holds::holds;
@@ -23,7 +23,7 @@ fn blank_with(
     last: &Last,
     w: Watchdog,
 ) -> u32
-    ensures { IsBlank (lent_in sets ends rows reach paths spans aims numbers run last) w result }
+    ensures { IsBlank (shown_in sets ends rows reach paths spans aims numbers run last) w result }
 {
     let blank = is_blank(
         sets, ends, rows, reach, paths, spans, aims, numbers, run, last, w,
@@ -46,7 +46,7 @@ pub extern "C" fn spwd_c_is_blank(
     last: &Last,
     watchdog: &Watchdog,
 ) -> u32
-    ensures { IsBlank (lent_in sets ends rows reach paths spans aims numbers run last) watchdog.now result }
+    ensures { IsBlank (shown_in sets ends rows reach paths spans aims numbers run last) watchdog.now result }
 {
     blank_with(
         sets, ends, rows, reach, paths, spans, aims, numbers, run, last, *watchdog,
@@ -74,7 +74,7 @@ pub extern "C" fn spwd_c_holds(
     other_aims: &mut Aims,
     other_numbers: &mut Numbers,
 ) -> u32
-    ensures { at_exit (at_entry (HoldsIt file.now result) sets ends rows reach paths spans aims numbers)
+    ensures { at_exit (at_now (HoldsIt file.now result) sets ends rows reach paths spans aims numbers)
         other_sets other_ends other_rows other_reach other_paths other_spans other_aims other_numbers }
 {
     let held = holds(

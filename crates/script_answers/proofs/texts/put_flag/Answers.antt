@@ -1,0 +1,13 @@
+-- `replies::texts::put_flag` meets its contract. Assumes nothing.
+use borrow.Author.Rules.{rules}
+use Rattle.rules_plan.specs.Print.{text}
+use Rattle.script_answers.specs.Texts.{flag_line}
+use Rattle.script_answers.proofs.texts.put_flag.Goals as goal
+
+pub returns-then-flag : goal.returns-then-flag
+unfolding flag_line text
+returns-then-flag c = rw c.if-flag.true c.put_word.ensures
+
+pub returns : goal.returns
+unfolding flag_line text
+returns c = rw c.if-flag.false c.put_word-2.ensures
