@@ -75,8 +75,8 @@ pub fn holds(
     other_aims: &mut Aims,
     other_numbers: &mut Numbers,
 ) -> bool
-    ensures variant { (result ≡ true) ↔ at_now (HoldsPlanOf file.now) sets ends rows reach paths spans aims numbers }
-    ensures at_exit { at_exit (Holds (plan_left file.now)) other_sets other_ends other_rows other_reach other_paths other_spans other_aims other_numbers }
+    ensures answer { (result ≡ true) ↔ at_now (HoldsPlanOf file.now) sets ends rows reach paths spans aims numbers }
+    ensures left { at_exit (Holds (plan_left file.now)) other_sets other_ends other_rows other_reach other_paths other_spans other_aims other_numbers }
 {
     load_plan::load::load(
         file,

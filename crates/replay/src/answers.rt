@@ -6,15 +6,15 @@ ghost use Rattle.replay.specs.Gather.{stand, flushed, roomy, Gathers, Passes, En
 use crate::lines::find_newline;
 use bytes_get::part;
 use bytes_put::put;
-use libc::STDOUT_FILENO;
 use memory_plan::layout::*;
 use memory_run::layout::*;
 use rules_box::Watchdog;
 use script_desk::answer::{answer, over_long};
+use std::io::{Stdout, Write};
 
 // What goes on from line to line: how many lines were read, the five numbers, how many bytes are gathered, whether the rest of a line
 // that is too long is to be passed over, and whether a write failed.
-#[derive(Drop)]
+#[derive(Clone, Copy)]
 pub struct Desk {
     pub count: u64,
     pub watchdog: Watchdog,
@@ -29,7 +29,7 @@ pub type Text = [u8; 65600];
 pub type Output = [u8; 131200];
 
 // Writes what is gathered, unless a write failed before; in either case nothing is gathered any more.
-pub fn flush(d: Desk, out: &Output) -> Desk
+pub fn flush(mut to: Stdout, d: Desk, out: &Output) -> Desk
     ensures { result ≡ flushed result.failed d }
 {
     let watchdog = d.watchdog;
@@ -43,7 +43,7 @@ pub fn flush(d: Desk, out: &Output) -> Desk
         };
     }
     let at = d.gathered;
-    let written = io::write_all(STDOUT_FILENO, part(out, 0, at));
+    let written = to.write_all(part(out, 0, at)).is_ok();
     Desk {
         count: d.count,
         watchdog,
@@ -54,11 +54,11 @@ pub fn flush(d: Desk, out: &Output) -> Desk
 }
 
 // Writes what is gathered where the longest answer might have no room behind it.
-fn make_room(d: Desk, out: &Output) -> Desk
+fn make_room(to: Stdout, d: Desk, out: &Output) -> Desk
     ensures { result ≡ roomy result.failed d }
 {
     if d.gathered > 65_600 {
-        return flush(d, out);
+        return flush(to, d, out);
     }
     d
 }
@@ -102,13 +102,13 @@ fn answer_line(
 }
 
 // A line that is longer than the input buffer: its answer, by the front of it that is there, and the rest of it is to be passed over.
-pub fn pass_over(front: &[u8], d: Desk, text: &mut Text, out: &mut Output) -> Desk
+pub fn pass_over(to: Stdout, front: &[u8], d: Desk, text: &mut Text, out: &mut Output) -> Desk
     ensures { (m : Memory) → Passes front.now (stand d m text.old out.old) (stand result m text.new out.new) }
 {
     if d.passing {
         return d;
     }
-    let ready = make_room(d, out);
+    let ready = make_room(to, d, out);
     let count = std::num::wrapping_add_u64(ready.count, 1);
     let watchdog = ready.watchdog;
     let end = over_long(front, count, text);
@@ -125,6 +125,7 @@ pub fn pass_over(front: &[u8], d: Desk, text: &mut Text, out: &mut Output) -> De
 
 // A line whose end was read: it is answered, or it was the rest of one that is passed over.
 pub fn end_line(
+    to: Stdout,
     line: &[u8],
     sets: &mut Sets,
     ends: &mut Ends,
@@ -152,14 +153,14 @@ pub fn end_line(
             failed: d.failed,
         };
     }
-    let ready = make_room(d, out);
+    let ready = make_room(to, d, out);
     answer_line(
         line, sets, ends, rows, reach, paths, spans, aims, numbers, run, last, ready, text, out,
     )
 }
 
 // Where the line begins whose end was not read yet.
-#[derive(Drop)]
+#[derive(Clone, Copy)]
 pub struct Rest {
     pub start: usize,
     pub desk: Desk,
@@ -167,6 +168,7 @@ pub struct Rest {
 
 // Every line of the input that ends there.
 pub fn answer_lines(
+    to: Stdout,
     input: &[u8],
     sets: &mut Sets,
     ends: &mut Ends,
@@ -189,6 +191,7 @@ pub fn answer_lines(
     let mut end = find_newline(input, 0);
     while end < input.len() {
         d = end_line(
+            to,
             &input[start..end],
             sets,
             ends,

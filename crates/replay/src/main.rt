@@ -1,22 +1,24 @@
 // replay: reads a script of commands from standard input and prints an answer for each line of it.
 // Answers are written before more input is waited for. A read or a write that fails is said on standard error, after the answers so far.
+#![tactic(auto)]
+
 ghost use Rattle.std.specs.Prelude.{◌≡◌, ◌≤◌, length, replicate};
 ghost use Rattle.box_calls.specs.Calls.{lent_in, left_in};
 ghost use Rattle.replay.specs.Gather.{stand, Taken};
 ghost use Rattle.replay.specs.Rounds.{Brings, Finishes, Serves};
 
 use answers::{Desk, Output, Text, answer_lines, end_line, flush, pass_over};
-use libc::{STDERR_FILENO, STDIN_FILENO};
 use lines::shift;
 use memory_plan::layout::*;
 use memory_run::layout::*;
 use rules_box::Watchdog;
+use std::io::{Read, Stderr, Stdin, Stdout, Write};
 
 mod answers;
 mod lines;
 
 // How much of the input buffer is filled, and whether the input ended or a read failed.
-#[derive(Drop)]
+#[derive(Clone, Copy)]
 struct Input {
     len: usize,
     ended: bool,
@@ -24,16 +26,21 @@ struct Input {
 }
 
 // Reads behind the bytes that are there; a read may bring fewer bytes than there is room for.
-fn read_more(input: &mut [u8], len: usize) -> Input
+fn read_more(mut from: Stdin, input: &mut [u8], len: usize) -> Input
     requires { len ≤ length input.old }
     ensures { Brings input.old len input.new result }
 {
-    let got = libc::read(STDIN_FILENO, &mut input[len..]);
-    let k = io::count(got, &input[len..]);
-    Input {
-        len: len + k,
-        ended: k == 0,
-        failed: got < 0,
+    match from.read(&mut input[len..]) {
+        Ok(k) => Input {
+            len: len + k,
+            ended: k == 0,
+            failed: false,
+        },
+        Err(_) => Input {
+            len,
+            ended: true,
+            failed: true,
+        },
     }
 }
 
@@ -57,7 +64,7 @@ fn output_room() -> Output
 }
 
 // How many bytes are left of the input.
-#[derive(Drop)]
+#[derive(Clone, Copy)]
 struct Left {
     len: usize,
     desk: Desk,
@@ -65,6 +72,7 @@ struct Left {
 
 // The lines that the input has so far; what is left begins at the front of the buffer. A line that fills the buffer is passed over.
 fn take_lines(
+    to: Stdout,
     input: &mut [u8],
     len: usize,
     sets: &mut Sets,
@@ -85,6 +93,7 @@ fn take_lines(
     ensures { Taken input.old len (stand desk (lent_in sets ends rows reach paths spans aims numbers run last) text.old out.old) input.new result.len (stand result.desk (left_in sets ends rows reach paths spans aims numbers run last) text.new out.new) }
 {
     let rest = answer_lines(
+        to,
         &input[..len],
         sets,
         ends,
@@ -106,7 +115,7 @@ fn take_lines(
     if left < input.len() {
         return Left { len: left, desk: d };
     }
-    let passed = pass_over(input, d, text, out);
+    let passed = pass_over(to, input, d, text, out);
     Left {
         len: 0,
         desk: passed,
@@ -115,6 +124,7 @@ fn take_lines(
 
 // The end of the input: a last line may lack its newline.
 fn finish(
+    to: Stdout,
     line: &[u8],
     sets: &mut Sets,
     ends: &mut Ends,
@@ -133,16 +143,16 @@ fn finish(
     ensures { Finishes line.now (stand d (lent_in sets ends rows reach paths spans aims numbers run last) text.old out.old) (stand result (left_in sets ends rows reach paths spans aims numbers run last) text.new out.new) }
 {
     if line.len() == 0 {
-        return flush(d, out);
+        return flush(to, d, out);
     }
     let ended = end_line(
-        line, sets, ends, rows, reach, paths, spans, aims, numbers, run, last, d, text, out,
+        to, line, sets, ends, rows, reach, paths, spans, aims, numbers, run, last, d, text, out,
     );
-    flush(ended, out)
+    flush(to, ended, out)
 }
 
 // What is left where the program ends, and whether it ends with input that could not be read.
-#[derive(Drop)]
+#[derive(Clone, Copy)]
 struct End {
     desk: Desk,
     unread: bool,
@@ -150,6 +160,8 @@ struct End {
 
 // Reads and answers until the input ends or fails, or a write fails. The turns are counted only so that the loop is seen to end.
 fn serve(
+    from: Stdin,
+    to: Stdout,
     sets: &mut Sets,
     ends: &mut Ends,
     rows: &mut Rows,
@@ -177,7 +189,7 @@ fn serve(
     let mut len = 0;
     let mut turns: u64 = 0;
     while turns < 18_446_744_073_709_551_615 {
-        let read = read_more(&mut input, len);
+        let read = read_more(from, &mut input, len);
         if read.failed {
             return End {
                 desk: d,
@@ -186,6 +198,7 @@ fn serve(
         }
         if read.ended {
             let desk = finish(
+                to,
                 &input[..len],
                 sets,
                 ends,
@@ -207,12 +220,12 @@ fn serve(
             };
         }
         let left = take_lines(
-            &mut input, read.len, sets, ends, rows, reach, paths, spans, aims, numbers, run, last,
-            d, &mut text, &mut out,
+            to, &mut input, read.len, sets, ends, rows, reach, paths, spans, aims, numbers, run,
+            last, d, &mut text, &mut out,
         );
         len = left.len;
         let after = left.desk;
-        d = flush(after, &out);
+        d = flush(to, after, &out);
         if d.failed {
             return End {
                 desk: d,
@@ -227,8 +240,13 @@ fn serve(
     }
 }
 
+// Says on standard error what was not done.
+fn say(mut errors: Stderr, text: &[u8]) {
+    errors.write_all(text).is_ok();
+}
+
 // "The box starts as after a clear."
-fn main() {
+fn main(rt: HostRuntime) {
     let mut sets = [0u64; SETS];
     let mut ends = [0u8; ENDS];
     let mut rows = [0u8; ROWS];
@@ -252,6 +270,8 @@ fn main() {
         &mut last,
     );
     let end = serve(
+        rt.stdin(),
+        rt.stdout(),
         &mut sets,
         &mut ends,
         &mut rows,
@@ -265,11 +285,11 @@ fn main() {
         cleared,
     );
     if end.unread {
-        io::write_all(STDERR_FILENO, b"replay: standard input could not be read\n");
+        say(rt.stderr(), b"replay: standard input could not be read\n");
     }
     if end.desk.failed {
-        io::write_all(
-            STDERR_FILENO,
+        say(
+            rt.stderr(),
             b"replay: standard output could not be written\n",
         );
     }

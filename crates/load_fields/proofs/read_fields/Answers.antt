@@ -17,21 +17,21 @@ use Rattle.load_fields.proofs.read_fields.Reads as reads
 use Rattle.load_fields.proofs.read_fields.Goals as goal
 
 abbrev After-known_told2 : Type 0
-After-known_told2 = lts.After-known_told2 tie.the-claims reads.Pre reads.Post goal.the-invariant-loop-at goal.the-decreases-loop-at
+After-known_told2 = lts.Past-After-known_told2 tie.the-claims reads.Pre reads.Post goal.the-invariant-loop-at goal.the-decreases-loop-at tie.handed_clauses
 
 abbrev After-take_item : Type 0
-After-take_item = lts.After-take_item tie.the-claims reads.Pre reads.Post goal.the-invariant-loop-at goal.the-decreases-loop-at
+After-take_item = lts.After-take_item tie.the-claims reads.Pre reads.Post goal.the-invariant-loop-at goal.the-decreases-loop-at tie.handed_clauses
 
 -- the second arm: the head has no fault
 good : (c : After-known_told2) →
-    Fine c.args.file.now c.loop-at.at c.loop-at.before c.head-in-Field-1.given.0.0 c.head-in-Field-1.given.0.1.0
-good c = head-fine _ _ _ _ _ (sym c.head_at-head.ensures ∙ c.head-in-Field-1.given.1)
+    Fine c.args.file.now c.loop-at.at c.loop-at.before c.in-Field.tag c.in-Field.size
+good c = head-fine _ _ _ _ _ (sym c.head_at-head.ensures ∙ c.in-Field.is)
 
 -- and behind the call the field's item was judged, and memory has it
 taken-there : (c : After-take_item) →
-    let l = c.before.before.before.before.before.before.before.before.before.before.before.before.before.before.before in
-    (x : Item) × (item_at l.args.file.now l.loop.at ≡ some x)
-    × Takes l.loop.at l.loop.invariant.1.so_far x c.take_item-fault.result c.take_item-fault.new.sets c.take_item-fault.new.ends c.take_item-fault.new.rows c.take_item-fault.new.reach c.take_item-fault.new.paths c.take_item-fault.new.spans c.take_item-fault.new.aims c.take_item-fault.new.numbers
+    let l = c in
+    (x : Item) × (item_at l.args.file.now l.loop-at.at ≡ some x)
+    × Takes l.loop-at.at l.loop-at.invariant.1.so_far x c.take_item-fault.result c.take_item-fault.new.sets c.take_item-fault.new.ends c.take_item-fault.new.rows c.take_item-fault.new.reach c.take_item-fault.new.paths c.take_item-fault.new.spans c.take_item-fault.new.aims c.take_item-fault.new.numbers
 taken-there c =
     let l = c.loop-at in
     let w = l.invariant.1 in

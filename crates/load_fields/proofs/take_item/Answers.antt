@@ -22,43 +22,43 @@ use Rattle.load_fields.proofs.take_item.Reads as reads
 use Rattle.load_fields.proofs.take_item.Goals as goal
 
 abbrev At-match-keys1 : Type 0
-At-match-keys1 = lts.At-match-keys1 tie.the-claims reads.Pre reads.Post
+At-match-keys1 = lts.Past-At-match-keys1 tie.the-claims reads.Pre reads.Post
 
 abbrev At-match-keys2 : Type 0
-At-match-keys2 = lts.At-match-keys2 tie.the-claims reads.Pre reads.Post
+At-match-keys2 = lts.Past-At-match-keys2 tie.the-claims reads.Pre reads.Post
 
 abbrev At-match-keys3 : Type 0
-At-match-keys3 = lts.At-match-keys3 tie.the-claims reads.Pre reads.Post
+At-match-keys3 = lts.Past-At-match-keys3 tie.the-claims reads.Pre reads.Post
 
 abbrev At-match-keys4 : Type 0
-At-match-keys4 = lts.At-match-keys4 tie.the-claims reads.Pre reads.Post
+At-match-keys4 = lts.Past-At-match-keys4 tie.the-claims reads.Pre reads.Post
 
 abbrev At-match-keys5 : Type 0
-At-match-keys5 = lts.At-match-keys5 tie.the-claims reads.Pre reads.Post
+At-match-keys5 = lts.Past-At-match-keys5 tie.the-claims reads.Pre reads.Post
 
 abbrev At-match-rest : Type 0
-At-match-rest = lts.At-match-rest tie.the-claims reads.Pre reads.Post
+At-match-rest = lts.Past-At-match-rest tie.the-claims reads.Pre reads.Post
 
 -- what each arm knows of the content's length
 sized-1 : (c : At-match-keys1) → 2 ≤ length c.args.content.now
 unfolding tag_of tags find
-sized-1 c = (between c.in_default.keys1 refl _ c.requires).0
+sized-1 c = (between c.in-1.is refl _ c.requires).0
 
 sized-2 : (c : At-match-keys2) → 3 ≤ length c.args.content.now
 unfolding tag_of tags find
-sized-2 c = (between c.in_default.keys2 refl _ c.requires).0
+sized-2 c = (between c.in-2.is refl _ c.requires).0
 
 sized-4 : (c : At-match-keys3) → 4 ≤ length c.args.content.now
 unfolding tag_of tags find
-sized-4 c = (between c.in_default.keys3 refl _ c.requires).0
+sized-4 c = (between c.in-4.is refl _ c.requires).0
 
 sized-5 : (c : At-match-keys4) → 8 ≤ length c.args.content.now
 unfolding tag_of tags find
-sized-5 c = (between c.in_default.keys4 refl _ c.requires).0
+sized-5 c = (between c.in-5.is refl _ c.requires).0
 
 sized-6 : (c : At-match-keys5) → 22 ≤ length c.args.content.now
 unfolding tag_of tags find
-sized-6 c = (between c.in_default.keys5 refl _ c.requires).0
+sized-6 c = (between c.in-6.is refl _ c.requires).0
 
 -- a tag with an allowed length that is none of the five is 3 or 7
 route-tag : (c : At-match-rest) → (c.args.tag ≡ 3) ⊎ (c.args.tag ≡ 7)

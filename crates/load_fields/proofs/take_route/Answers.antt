@@ -53,12 +53,12 @@ started v = v.before.before.before.before.before.before
 
 -- the item is the path, or the reply, of what was read
 as-path : (v : After-route_fault) (x : Item) → let content = (started v).args.content.now in
-    (started v).args.tag ≡ 3 → item_of (started v).args.tag content ≡ some x → x ≡ path_item (nth content 0) (nth content 1) (linked v).part.result.now
+    (started v).args.tag ≡ 3 → item_of (started v).args.tag content ≡ some x → x ≡ path_item (nth content 0) (nth content 1) (linked v).part-links.result.now
 unfolding tag_of tags find as_path started linked
 as-path v x w is = let content = (started v).args.content.now in reads_as w refl content x is ∙ ap (path_item (nth content 0) (nth content 1)) (sym (links-are (linked v)))
 
 as-reply : (v : After-route_fault) (x : Item) → let content = (started v).args.content.now in
-    (started v).args.tag ≡ 7 → item_of (started v).args.tag content ≡ some x → x ≡ reply_item (nth content 0) (nth content 1) (linked v).part.result.now
+    (started v).args.tag ≡ 7 → item_of (started v).args.tag content ≡ some x → x ≡ reply_item (nth content 0) (nth content 1) (linked v).part-links.result.now
 unfolding tag_of tags find as_reply started linked
 as-reply v x w is = let content = (started v).args.content.now in reads_as w refl content x is ∙ ap (reply_item (nth content 0) (nth content 1)) (sym (links-are (linked v)))
 
@@ -107,7 +107,7 @@ unfolding started linked
 returns c size p x fair next is a b d e h g =
     let n = c.before in
     let content = (started c.before.before.before.before.before.before).args.content.now in
-    let y = route (nth content 1) (nth content 0) (linked c.before.before.before.before.before.before).part.result.now in
+    let y = route (nth content 1) (nth content 0) (linked c.before.before.before.before.before.before).part-links.result.now in
     let q = n.asked-a.ensures.1 c.if-tag-eq3.false in
     let z = sym n.if-fault-ne0.false ∙ n.route_fault-fault.ensures.value p fair a b ∙ reply-judged q size p fair h g _ in
     let (o, at, from, to) = (q.path size p fair h g).found (has-path q (n.route_fault-fault.ensures.again_value n.if-fault-ne0.false).2) in
