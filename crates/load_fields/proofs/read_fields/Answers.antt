@@ -29,9 +29,8 @@ good c = head-fine _ _ _ _ _ (sym c.head_at-head.ensures ∙ c.in-Field.is)
 
 -- and behind the call the field's item was judged, and memory has it
 taken-there : (c : After-take_item) →
-    let l = c in
-    (x : Item) × (item_at l.args.file.now l.loop-at.at ≡ some x)
-    × Takes l.loop-at.at l.loop-at.invariant.1.so_far x c.take_item-fault.result c.take_item-fault.new.sets c.take_item-fault.new.ends c.take_item-fault.new.rows c.take_item-fault.new.reach c.take_item-fault.new.paths c.take_item-fault.new.spans c.take_item-fault.new.aims c.take_item-fault.new.numbers
+    (x : Item) × (item_at c.args.file.now c.loop-at.at ≡ some x)
+    × Takes c.loop-at.at c.loop-at.invariant.1.so_far x c.take_item-fault.result c.take_item-fault.new.sets c.take_item-fault.new.ends c.take_item-fault.new.rows c.take_item-fault.new.reach c.take_item-fault.new.paths c.take_item-fault.new.spans c.take_item-fault.new.aims c.take_item-fault.new.numbers
 taken-there c =
     let l = c.loop-at in
     let w = l.invariant.1 in
