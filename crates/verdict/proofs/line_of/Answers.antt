@@ -7,8 +7,7 @@ use lib.ListN.{length, length-append, drop}
 use borrow.Author.Rules.{rules}
 use Rattle.rules_plan.specs.declared.Verdict.{Verdict}
 use Rattle.rules_plan.specs.Print.{line}
-use Rattle.verdict.proofs.line_of.Statement.{statement}
-use Rattle.verdict.proofs.line_of.Tie as tie
+use Rattle.verdict.proofs.line_of.Goals as goal
 
 -- The line of a verdict is that of an equal one, and the buffer has room for it.
 told : (l : List ℕ) {v w : Verdict} {k : ℕ} {o : List ℕ} → v ≡ w → (k ≡ length (line v)) × (o ≡ line v ++ drop (length (line v)) l) →
@@ -18,14 +17,5 @@ told l {v} {w} {k} {o} e p = (q.0, q.1, rw (ap length q.1 ∙ length-append (lin
     q : (k ≡ length (line w)) × (o ≡ line w ++ drop (length (line w)) l)
     q = rw e at p
 
-load-requires : tie.Need-load-requires
-load-requires c κs = search rules
-
-print-verdict-requires : tie.Need-print-verdict-requires
-print-verdict-requires c κs = search rules
-
-returns : tie.Need-returns
-returns c = told _ c.before.before.load.ensures.0 c.print-verdict.ensures
-
-pub line-of-spec : {M : Type 1} → statement M
-line-of-spec = tie.close (tie.spec load-requires print-verdict-requires returns)
+pub returns : goal.returns
+returns c = told _ c.load-verdict.ensures.0 c.print_verdict.ensures
