@@ -1,4 +1,6 @@
 // Whether the box is blank, for the lamp on the jig: every number is read, and none is taken on trust.
+#![tactic(auto)]
+
 ghost use Rattle.std.specs.Prelude.{◌≡◌, ◌↔◌, true, replicate};
 ghost use Rattle.rules_plan.specs.Plan.{blank};
 ghost use Rattle.memory_plan.specs.Memory as plan;

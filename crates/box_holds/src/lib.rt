@@ -1,4 +1,6 @@
 // Whether the box holds the plan of a file: the file is loaded into memory beside the box's, and the two are compared, every number.
+#![tactic(auto)]
+
 ghost use Rattle.std.specs.Prelude.{◌≡◌, ◌↔◌, true};
 ghost use Rattle.memory_plan.specs.Memory.{Holds};
 ghost use Rattle.load_plan.specs.Load.{plan_left, HoldsPlanOf};
