@@ -19,13 +19,13 @@
  * out does not overlap the box; one call at a time on one box. A pointer may be NULL where the size beside it is 0.
  *
  * Link with libspwd_c.a, which c/library builds under target/c:
- *     x86-64/libspwd_c.a    Linux on x86-64 (ELF, the System V calling convention, position-independent), as the Rattle kit compiles it
- *     native/libspwd_c.a    the machine that c/library runs on. On x86-64 that is the same file; on aarch64 it is the same LLVM module,
- *                           compiled for that machine by the kit's clang at the same -O3
- * The kit itself compiles for x86-64 alone. For another machine its module is compiled as c/library does it on aarch64 (`keeping` gets
- * hold of it, `compiled` compiles it), with the triple of that machine. It must be one that the kit's clang knows, with pointers and
- * size_t of 64 bits, since sizes cross as such; its calling convention must leave open what stands above a narrower number in a register,
- * as that of these two does, since the module widens none; and it must bring memset. Only x86-64 and aarch64 were run.
+ *     x86-64/libspwd_c.a    Linux on any x86-64 (ELF, the System V calling convention, position-independent), as the Rattle kit compiles it
+ *     native/libspwd_c.a    the machine that c/library runs on. On x86-64 that is the same file; on aarch64 it is the same code, compiled
+ *                           for that machine by the kit's clang at the same -O3 (rt lib --target aarch64-unknown-linux-gnu, which makes
+ *                           it on x86-64 too)
+ * The kit compiles for these two alone. Pointers and size_t have 64 bits in both, since sizes cross as such; their calling conventions leave
+ * open what stands above a narrower number in a register, since the archive widens none; and the C library linked beside it brings memset.
+ * That for aarch64 was run as an older kit made it, and not yet as today's does.
  */
 #ifndef SPWD_H
 #define SPWD_H
