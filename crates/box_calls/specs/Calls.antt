@@ -3,7 +3,7 @@ use Rattle.std.specs.Prelude.{◌≡◌, ℕ, List, [], ◌∷◌, length}
 use Rattle.rules_plan.specs.declared.Verdict.{Verdict}
 use Rattle.rules_plan.specs.Judge.{judge}
 use Rattle.rules_plan.specs.Good.{Bytes}
-use Rattle.memory_plan.specs.Lent.{Array, Shown, at_entry, at_exit, at_now}
+use Rattle.memory_plan.specs.Lent.{Array, SharedArray, at_entry, at_exit, at_now}
 use Rattle.rules_box.specs.declared.Event.{Event}
 use Rattle.rules_box.specs.declared.Answer.{Answer}
 use Rattle.rules_box.specs.declared.Watchdog.{Watchdog}
@@ -44,7 +44,7 @@ memory sets' ends' rows' reach' paths' spans' aims' numbers' run' last' = record
 abbrev pub lent_in : (sets ends rows reach paths spans aims numbers run last : Array) → Memory
 lent_in sets ends rows reach paths spans aims numbers run last = at_entry memory sets ends rows reach paths spans aims numbers run.entry.now last.entry.now
 
-abbrev pub shown_in : (sets ends rows reach paths spans aims numbers run last : Shown) → Memory
+abbrev pub shown_in : (sets ends rows reach paths spans aims numbers run last : SharedArray) → Memory
 shown_in sets ends rows reach paths spans aims numbers run last = at_now memory sets ends rows reach paths spans aims numbers run.entry.now last.entry.now
 
 abbrev pub left_in : (sets ends rows reach paths spans aims numbers run last : Array) → Memory

@@ -100,6 +100,7 @@ starts-only-at-entries ok only before after e answer b came s j low five =
 -- two places of a list with at most one element that passes
 module _ {A : Type 0} (t : A → Bool) where
   some-length : (xs : List A) (x : A) → Memᴰ x xs → 0 < length xs
+  some-length [] x m = elim m [ ]
   some-length (y ∷ ys) x m = omega arith
 
   first-only : (z : A) (zs : List A) (x y : A) (k : ℕ) → length (keep t (z ∷ zs)) ≤ 1 → some z ≡ some x → at_place k zs ≡ some y → t x ≡ true → t y ≡ true → ⊥

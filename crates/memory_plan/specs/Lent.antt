@@ -8,8 +8,8 @@ abbrev pub Array : Type 0
 Array = Both (MutBor (List ℕ)) (MutBor (List ℕ))
 
 -- an array that is lent to be read
-abbrev pub Shown : Type 0
-Shown = Both (Bor (List ℕ)) (Bor (List ℕ))
+abbrev pub SharedArray : Type 0
+SharedArray = Both (Bor (List ℕ)) (Bor (List ℕ))
 
 -- what f says of all eight
 abbrev pub at_entry {ℓ} : {A : Type ℓ} → ((sets ends rows reach paths spans aims numbers : List ℕ) → A) → (sets ends rows reach paths spans aims numbers : Array) → A
@@ -19,5 +19,5 @@ abbrev pub at_exit {ℓ} : {A : Type ℓ} → ((sets ends rows reach paths spans
 at_exit f sets ends rows reach paths spans aims numbers = f sets.exit.now ends.exit.now rows.exit.now reach.exit.now paths.exit.now spans.exit.now aims.exit.now numbers.exit.now
 
 -- what f says of all eight where they are only read
-abbrev pub at_now {ℓ} : {A : Type ℓ} → ((sets ends rows reach paths spans aims numbers : List ℕ) → A) → (sets ends rows reach paths spans aims numbers : Shown) → A
+abbrev pub at_now {ℓ} : {A : Type ℓ} → ((sets ends rows reach paths spans aims numbers : List ℕ) → A) → (sets ends rows reach paths spans aims numbers : SharedArray) → A
 at_now f sets ends rows reach paths spans aims numbers = f sets.entry.now ends.entry.now rows.entry.now reach.entry.now paths.entry.now spans.entry.now aims.entry.now numbers.entry.now

@@ -1,4 +1,3 @@
 pub mod Calls
 pub mod Events
 pub mod Asks
-pub mod Lent
