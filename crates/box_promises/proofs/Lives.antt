@@ -1,11 +1,11 @@
 -- What is live in a row of memory, and the words that say so.
-use mathlib.Core.Path.{◌≡◌, refl, ◌∙◌}
+use mathlib.Core.Path.{ap, ◌≡◌, refl, ◌∙◌}
 use mathlib.Core.Logic.{◌≢◌}
 use mathlib.Core.Option.{Option, none, some}
 use Prim.Native.Nat.{ℕ, ◌+◌, ◌-◌, ◌*◌, ◌<◌}
 use Rattle.lists.specs.Place.{at_place}
 use Rattle.rules_plan.specs.Meaning.{initiators}
-use Rattle.memory_plan.specs.View.{owner}
+use Rattle.memory_plan.specs.View.{Owner, owner}
 use Rattle.memory_plan.specs.laws.Entries.{owner_at}
 use Rattle.rules_box.specs.State.{Box, Live, idle, the_plan}
 use Rattle.memory_run.specs.Run.{word_of, live_word, live_time, side_of}
@@ -37,7 +37,7 @@ lives m b h r low n = go (at_place r (initiators (the_plan b))) refl
 module _ (m : Memory) (b : Box) (h : HeldBy m b) (r i : ℕ) (low : r < 8) (at : at_place r (initiators (the_plan b)) ≡ some i) (l : Live) (is : (b.side i).live ≡ some l) where
   pub word-is : run_word m r 10 ≡ word_of (owner (the_plan b) i) l.request
   unfolding side_of live_word
-  word-is = live-word m b h r low ∙ rw (owner_at (the_plan b) r i at, at, side_of, is, live_word)
+  word-is = live-word m b h r low ∙ ap (λ (o : Owner). live_word o (side_of (the_plan b) b.side r).live) (owner_at (the_plan b) r i at) ∙ rw (at, side_of, is, live_word)
 
   pub time-is : run_word m r 11 ≡ (l.span - l.age) * 256 + l.span
   unfolding side_of live_time

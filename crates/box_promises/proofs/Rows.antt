@@ -126,7 +126,7 @@ module _ (m : Memory) (b : Box) (h : HeldBy m b) where
       let rest = drop 12 (drop (r * 12) m.run) in
       let row : take 12 (drop (r * 12) m.run) ≡ row_of (owner p i) side =
       ap (λ (ws : List ℕ). take 12 (drop (r * 12) ws)) h.at.runs.run
-      ∙ run-part (owner_of p) (side_of p b.side) (sides-fit b fit) r (eight-rows r i at) ∙ rw (owner_at p r i at, at, side_of) in
+      ∙ run-part (owner_of p) (side_of p b.side) (sides-fit b fit) r (eight-rows r i at) ∙ ap (λ (o : Owner). row_of o (side_of p b.side r)) (owner_at p r i at) ∙ ap (row_of (owner p i)) (rw (at, side_of)) in
       let whole : drop (r * 12) m.run ≡ row_of (owner p i) side ++ rest = sym (take-append-drop 12 (drop (r * 12) m.run)) ∙ ap (λ (ws : List ℕ). ws ++ rest) row in (
         fill ++ (two ++ rest),
         ap (λ (k : ℕ). drop k m.run) e ∙ sym (drop-drop 2 (r * 12) m.run) ∙ ap (drop 2) whole

@@ -1,0 +1,6 @@
+-- `spwd_c::next::spwd_c_next` meets its contract. Assumes nothing.
+use borrow.Author.Rules.{rules}
+use Rattle.spwd_c.proofs.next.spwd_c_next.Goals as goal
+
+pub returns : goal.returns
+returns c = record { answer = c.next.result; listed-as = c.next_numbers.ensures; tells = c.next.ensures }
