@@ -1,8 +1,6 @@
 -- A read, the end of the input, and rounds one after the other. Assumes nothing.
 use Rattle.std.proofs.Common.{◌≡◌, ℕ, ◌+◌, ◌<◌, true, false, eqb, List, length, take, ℤ, pos, negsuc, sym, refl, ap, ◌∙◌, subst, arith, le-ltb, eq-eqb, eqb-true}
-use lib.Signed.{lt_z}
 use borrow.Author.Tests.{eqb-false}
-use Rattle.io.specs.Counts.{clamp_len}
 use Rattle.lists.specs.laws.Bools.{same_test, not-both}
 use Rattle.box_calls.specs.Calls.{Memory}
 use Rattle.rules_box.specs.declared.Watchdog.{Watchdog}
@@ -14,10 +12,6 @@ use Rattle.replay.specs.Rounds.{Brings, begun, Rounds, more, Finishes, Serves, f
 -- what a read brought: nothing where the count stays, and nothing where it failed
 pub read-ended : (len k : ℕ) → eqb k 0 ≡ eqb (len + k) len
 read-ended len k = same_test (eqb k 0) (eqb (len + k) len) (λ e. eq-eqb (len + k) len (omega (arith, eqb-true k 0 e))) (λ e. eq-eqb k 0 (omega (arith, eqb-true (len + k) len e)))
-
-pub read-failed : (got : ℤ) (most : ℕ) {k : ℕ} → k ≡ clamp_len got most → lt_z got (pos 0) ≡ true → eqb k 0 ≡ true
-read-failed (pos n) most e h = not-both h (le-ltb n 0 (omega arith))
-read-failed (negsuc n) most {k} e h = eq-eqb k 0 e
 
 module _ {line : List ℕ} {s : Stand} {r : Desk} where
   pub finishes-nothing : length line ≡ 0 → r ≡ flushed r.failed s.desk → Finishes line s (with_desk s r)
