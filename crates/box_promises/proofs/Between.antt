@@ -3,8 +3,8 @@ use mathlib.Core.Path.{◌≡◌, refl, sym, ap, ap₂, ◌∙◌}
 use mathlib.Core.Logic.{◌≢◌}
 use mathlib.Core.List.{List, [], ◌∷◌, ◌++◌}
 use mathlib.Core.Option.{Option, none, some, map}
-use mathlib.Core.Bool.{true, ◌&&◌, cond}
-use Prim.Native.Nat.{ℕ, zero, suc, ◌≤◌, ◌<◌}
+use mathlib.Core.Bool.{◌&&◌, cond}
+use Prim.Native.Nat.{ℕ, zero, suc, ◌≤◌}
 use native.Mathlib.Omega.{arith}
 use lib.ListN.{length, take}
 use lib.Seq.{take-suc, take-nil}
@@ -12,18 +12,16 @@ use lib.Dec.{eqb, leb}
 use Rattle.lists.specs.Place.{at_place}
 use Rattle.lists.specs.laws.At.{read_at, at-within}
 use Rattle.rules_plan.specs.Plan.{nth}
-use Rattle.rules_plan.specs.Meaning.{uses}
 use Rattle.rules_plan.specs.Promises.{AcceptedIsSound}
 use Rattle.rules_box.specs.declared.Event.{Event}
-use Rattle.rules_box.specs.declared.Event.TheVariants.{TimeCode}
 use Rattle.rules_box.specs.declared.Answer.{Answer}
-use Rattle.rules_box.specs.State.{Box, Side, Live, the_plan}
+use Rattle.rules_box.specs.State.{Box, Live}
 use Rattle.rules_box.specs.Records.{Record, record_bytes}
-use Rattle.rules_box.specs.Step.{Outcome, step, clock_of}
+use Rattle.rules_box.specs.Step.{Outcome, step}
 use Rattle.rules_box.specs.Promises as box
 use Rattle.rules_box.specs.laws.Steps.{records-cases}
 use Rattle.box_calls.specs.Calls.{Lent, StepLeaves, Came}
-use Rattle.box_promises.specs.Words.{RowOf, live_target_in, count_of, record_at, target_after, path_has}
+use Rattle.box_promises.specs.Words.{RowOf, live_target_in, count_of, target_after}
 use Rattle.box_promises.specs.Promises.{HeldBy, NotEvenBetweenRecords}
 use Rattle.box_promises.proofs.Held.{held, outcome}
 use Rattle.box_promises.proofs.Says.{says}

@@ -14,17 +14,16 @@ use Rattle.rules_plan.specs.Meaning.{initiators}
 use Rattle.rules_plan.specs.Promises.{AcceptedIsSound}
 use Rattle.memory_plan.specs.View.{owner}
 use Rattle.rules_box.specs.declared.Event.{Event}
-use Rattle.rules_box.specs.declared.Answer.{Answer}
 use Rattle.rules_box.specs.declared.Watchdog.{Watchdog}
 use Rattle.rules_box.specs.State.{Box, Live, the_plan}
 use Rattle.rules_box.specs.Turn.{older}
-use Rattle.rules_box.specs.Records.{Record, record_bytes, full}
-use Rattle.rules_box.specs.Step.{Outcome, step, clock_of}
+use Rattle.rules_box.specs.Records.{record_bytes, full}
+use Rattle.rules_box.specs.Step.{Outcome, step}
 use Rattle.rules_box.specs.History.{is_tick, lasting}
 use Rattle.rules_box.specs.Promises as box
 use Rattle.rules_box.specs.laws.Steps.{plan-kept}
 use Rattle.memory_run.specs.Run.{word_of}
-use Rattle.box_calls.specs.Calls.{Memory, Lent, StepLeaves, Came, by-event, Done}
+use Rattle.box_calls.specs.Calls.{StepLeaves, Came, by-event, Done}
 use Rattle.box_promises.specs.Words.{run_word, request_in, tick_of, record_at}
 use Rattle.box_promises.specs.Promises.{HeldBy, OutcomeOf, Shows, StillLive, LiveByRecordOnly, EndedByReply, EndsByReplyOrRecord, NoneStillLive}
 use Rattle.box_promises.proofs.Held.{held, outcome}

@@ -14,7 +14,6 @@ use Rattle.lists.specs.laws.Bools.{same_test, none-some, some-some}
 use Rattle.lists.specs.laws.Place.{first_some_lem, first-has}
 use Rattle.lists.specs.laws.At.{at-member}
 use Rattle.lists.specs.laws.Lines.{map-without}
-use Rattle.rules_plan.specs.Plan.{Plan}
 use Rattle.rules_plan.specs.Meaning.{initiators}
 use Rattle.rules_plan.specs.Promises.{AcceptedIsSound}
 use Rattle.memory_plan.specs.View.{Owner, owner}
@@ -26,14 +25,14 @@ use Rattle.rules_box.specs.State.{Box, Side, Live, the_plan}
 use Rattle.rules_box.specs.Refuse.{refusal}
 use Rattle.rules_box.specs.Turn.{Start, in_sequence, asked, join, finish, aged, allows, start_of, turned}
 use Rattle.rules_box.specs.Step.{Outcome, step, accepts, ticked}
-use Rattle.rules_box.specs.History.{is_tick, Fate, starts, waits, leaving, fate_by, fate}
+use Rattle.rules_box.specs.History.{is_tick, waits, leaving, fate_by, fate}
 use Rattle.rules_box.specs.Promises as box
 use Rattle.rules_box.specs.laws.Turns.{Begins, begins, turned-start, turned-rest}
 use Rattle.rules_box.specs.laws.Steps.{step-accepted, step-refused, side-cases, plan-kept}
 use Rattle.rules_box.specs.laws.Fit.{FitRequest}
 use Rattle.memory_run.specs.Run.{word_of}
 use Rattle.box_calls.specs.Calls.{StepLeaves, Came, by-event, Done}
-use Rattle.box_promises.specs.Words.{run_word, request_in, line_in, number_of, is_time_code}
+use Rattle.box_promises.specs.Words.{request_in, line_in, number_of, is_time_code}
 use Rattle.box_promises.specs.Promises.{HeldBy, Leaves}
 use Rattle.box_promises.proofs.Held.{held, outcome}
 use Rattle.box_promises.proofs.Nothing.{accepted-by, accepts-by}

@@ -16,7 +16,6 @@ use Rattle.lists.specs.laws.Bools.{not-both}
 use Rattle.lists.specs.laws.Rows.{rise, no_row}
 use Rattle.rules_plan.specs.Plan.{blank}
 use Rattle.rules_plan.specs.Meaning.{is_initiator, initiators}
-use Rattle.rules_plan.specs.Verdict.{number}
 use Rattle.rules_plan.specs.Promises.{AcceptedIsSound}
 use Rattle.memory_plan.specs.laws.BlankMemory.{holds-blank}
 use Rattle.rules_box.specs.declared.Event.{Event}

@@ -2,7 +2,6 @@
 use mathlib.Core.Path.{◌≡◌, refl}
 use mathlib.Core.List.{List, [], ◌∷◌, Memᴰ}
 use mathlib.Core.Option.{Option, none, some}
-use Prim.Native.Nat.{ℕ}
 use Rattle.lists.specs.laws.At.{member-at}
 use Rattle.lists.specs.laws.Count.{some-counted}
 use Rattle.rules_plan.specs.Plan.{Entry, Plan}

@@ -1,6 +1,6 @@
 -- What writing out answers and leaves, and the bytes that it puts as the code finds them in plan memory: a part for each number, row and
 -- cell in turn.
-use Rattle.std.specs.Prelude.{◌≡◌, ℕ, ◌+◌, ◌*◌, min, length}
+use Rattle.std.specs.Prelude.{◌≡◌, ℕ, ◌*◌, min, length}
 use mathlib.Core.List.{List, ◌++◌, flat_map}
 use Rattle.std.proofs.Math.Option.{Option}
 use Rattle.rules_plan.specs.declared.Copied.{Copied}

@@ -1,7 +1,7 @@
 -- A read, the end of the input, and rounds one after the other. Assumes nothing.
-use Rattle.std.proofs.Common.{◌≡◌, ℕ, ◌+◌, ◌<◌, true, false, eqb, List, length, take, ℤ, pos, negsuc, sym, refl, ap, ◌∙◌, subst, arith, le-ltb, eq-eqb, eqb-true}
+use Rattle.std.proofs.Common.{◌≡◌, ℕ, ◌+◌, true, false, eqb, List, length, take, sym, refl, ap, ◌∙◌, subst, arith, eq-eqb, eqb-true}
 use borrow.Author.Tests.{eqb-false}
-use Rattle.lists.specs.laws.Bools.{same_test, not-both}
+use Rattle.lists.specs.laws.Bools.{same_test}
 use Rattle.box_calls.specs.Calls.{Memory}
 use Rattle.rules_box.specs.declared.Watchdog.{Watchdog}
 use Rattle.replay.specs.declared.answers.Desk.{Desk}

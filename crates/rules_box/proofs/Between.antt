@@ -12,17 +12,17 @@ use native.Mathlib.Omega.{arith}
 use lib.ListN.{length, take, drop, take-append-drop}
 use lib.Seq.{take-append-le, take-append-add}
 use lib.Dec.{eqb, leb}
-use borrow.Author.Tests.{eqb-true, eqb-false, eq-eqb, leb-true, leb-false, le-leb, ne_eqb, lt-ltb, le-ltb}
-use Rattle.lists.specs.laws.Bools.{both_true, none-some, some-some, not-both}
+use borrow.Author.Tests.{eqb-true, eqb-false, eq-eqb, leb-true, ne_eqb, le-ltb}
+use Rattle.lists.specs.laws.Bools.{both_true, none-some, some-some}
 use Rattle.lists.specs.laws.Search.{flat-elim}
 use Rattle.rules_plan.specs.Plan.{Plan}
 use Rattle.rules_plan.specs.Meaning.{initiators, uses}
 use Rattle.rules_plan.specs.Promises.{AcceptedIsSound}
 use Rattle.rules_box.specs.declared.Watchdog.{Watchdog}
 use Rattle.rules_box.specs.State.{Box, Side, Live, the_plan}
-use Rattle.rules_box.specs.Turn.{Start, value_of, in_sequence, is_late, survives, older, fresh, start_of, turned}
+use Rattle.rules_box.specs.Turn.{value_of, in_sequence, is_late, older, fresh, turned}
 use Rattle.rules_box.specs.Records.{Record, full, visit_records, visits_records, records}
-use Rattle.rules_box.specs.Promises.{runs, Apart, LinksNeverShared, told_by, told_target, live_target, NotEvenAsTold, stage, rank}
+use Rattle.rules_box.specs.Promises.{runs, Apart, LinksNeverShared, told_by, told_target, live_target, NotEvenAsTold, stage}
 use Rattle.rules_box.specs.laws.Turns.{outlives, turned-start}
 use Rattle.rules_box.specs.laws.Invariant.{AtWork, Inv, older-at-work, turned-at-work, reached-inv}
 use Rattle.rules_box.proofs.Order.{Starts, Still, visit-cases, front, front_ordered}

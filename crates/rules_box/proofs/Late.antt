@@ -1,12 +1,10 @@
 -- A clock stepped back by one reads as late.
-use mathlib.Core.Path.{◌≡◌, refl, ap, ◌∙◌}
-use mathlib.Core.Bool.{true, false, cond}
+use mathlib.Core.Path.{◌≡◌, ap, ◌∙◌}
+use mathlib.Core.Bool.{false}
 use Prim.Native.Nat.{ℕ, ◌+◌, ◌-◌, ◌%◌, ◌^◌, ◌<◌, ◌≤◌}
 use native.Mathlib.Omega.{arith}
-use lib.Dec.{eqb}
 use borrow.Author.Tests.{lt-ltb, ne_eqb}
 use Rattle.rules_box.specs.declared.Event.TheVariants.{Reading}
-use Rattle.rules_box.specs.declared.Watchdog.{Watchdog}
 use Rattle.rules_box.specs.State.{Box, no_plan}
 use Rattle.rules_box.specs.Refuse.{refusal, refusals}
 use Rattle.rules_box.specs.Watch.{yes?, elapsed, is_overdue}

@@ -8,7 +8,7 @@ use mathlib.Core.Bool.{Bool, true, false}
 use Prim.Native.Nat.{ℕ, ◌+◌}
 use native.Mathlib.Omega.{arith}
 use lib.Dec.{eqb}
-use borrow.Author.Tests.{eqb-true, eqb-false, eq-eqb, ne_eqb, not-false}
+use borrow.Author.Tests.{eqb-true, eq-eqb, ne_eqb, not-false}
 use Rattle.lists.specs.Search.{is_some, only}
 use Rattle.lists.specs.Rows.{test_of}
 use Rattle.lists.specs.laws.Bools.{none-some}
@@ -26,11 +26,11 @@ use Rattle.rules_box.specs.State.{Box, Side, Live, the_plan}
 use Rattle.rules_box.specs.Refuse.{refusal, refusals, is_live_number}
 use Rattle.rules_box.specs.Turn.{Start, value_of, in_sequence, is_late, survives, older, aged, visited, starting, fresh, join, finish, start_of, turned}
 use Rattle.rules_box.specs.Records.{Record, full, watchdog_record, sequence_record, late_record, late_records, visit_records, visits_records, records}
-use Rattle.rules_box.specs.Step.{step, accepts, Outcome, with_side, ticked, ended_by}
+use Rattle.rules_box.specs.Step.{accepts, Outcome, with_side, ticked, ended_by}
 use Rattle.rules_box.specs.History.{is_tick, lasting}
 use Rattle.rules_box.specs.Promises.{LiveByRecordOnly, EndedByReply, EndsByReplyOrRecord, NoneStillLive, stage, rank}
 use Rattle.rules_box.specs.laws.Turns.{Outlives, visited-elim, turned-rest, live-cases}
-use Rattle.rules_box.specs.laws.Steps.{refused, step-cases, side-changed, live-kept, records-cases}
+use Rattle.rules_box.specs.laws.Steps.{step-cases, live-kept, records-cases}
 use Rattle.rules_box.specs.laws.Invariant.{Inv, reached-inv}
 use Rattle.rules_box.proofs.Order.{Starts, Still, visit-cases, front, front_ordered}
 use Rattle.rules_box.proofs.Visits.{start-recorded}

@@ -7,25 +7,20 @@ use mathlib.Core.Option.{some}
 use mathlib.Core.Bool.{Bool, true}
 use Prim.Native.Nat.{ℕ}
 use native.Mathlib.Omega.{arith}
-use Rattle.lists.specs.laws.Bools.{none-some}
 use Rattle.lists.specs.laws.Search.{flat-intro, flat-elim}
 use Rattle.lists.specs.laws.Place.{first_some_lem}
 use Rattle.rules_plan.specs.Plan.{Plan}
 use Rattle.rules_plan.specs.Meaning.{initiators}
 use Rattle.rules_plan.specs.laws.Sound.{Sound}
-use Rattle.rules_box.specs.declared.Event.{Event}
-use Rattle.rules_box.specs.declared.Event.TheVariants.{TimeCode, Request, Reply, Reading}
+use Rattle.rules_box.specs.declared.Event.TheVariants.{TimeCode}
 use Rattle.rules_box.specs.declared.Watchdog.{Watchdog}
-use Rattle.rules_box.specs.State.{Box, Side, Live, the_plan}
-use Rattle.rules_box.specs.Turn.{Start, value_of, in_sequence, survives, older, visited, allows, fresh, join, finish, start_of, turned}
+use Rattle.rules_box.specs.State.{Box, the_plan}
+use Rattle.rules_box.specs.Turn.{Start, value_of, in_sequence, survives, visited, allows, start_of}
 use Rattle.rules_box.specs.Records.{Record, full, start_record, still_record, visit_records, visits_records, records}
-use Rattle.rules_box.specs.Step.{accepts, Outcome, with_side, ticked}
-use Rattle.rules_box.specs.Promises.{is_start_of, AtAnEntry, StartsOnlyAtEntries, LiveByRecordOnly}
-use Rattle.rules_plan.specs.Promises.{AcceptedIsSound}
+use Rattle.rules_box.specs.Promises.{is_start_of, AtAnEntry, StartsOnlyAtEntries}
 use Rattle.rules_plan.specs.laws.Runs.{its-initiator}
-use Rattle.rules_box.specs.laws.Turns.{Outlives, begins, live-cases}
-use Rattle.rules_box.specs.laws.Steps.{step-cases, live-kept, records-cases}
-use Rattle.rules_box.specs.laws.Invariant.{reached-inv}
+use Rattle.rules_box.specs.laws.Turns.{begins}
+use Rattle.rules_box.specs.laws.Steps.{records-cases}
 use Rattle.rules_box.proofs.Order.{Starts, Still, visit-cases, front, front_ordered, start-told, start-rank}
 
 -- a start is written down

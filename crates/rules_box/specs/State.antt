@@ -1,5 +1,5 @@
 -- The state of the box, a clear, and a load.
-use Rattle.std.specs.Prelude.{ℕ, List, [], ◌∷◌, Bool, not, cond, eqb}
+use Rattle.std.specs.Prelude.{ℕ, List, [], Bool, not, cond, eqb}
 use Rattle.std.proofs.Math.Option.{Option, none, some, get_or}
 use Rattle.lists.specs.Search.{is_some}
 use Rattle.rules_plan.specs.Plan.{Plan, blank}

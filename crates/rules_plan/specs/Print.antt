@@ -1,7 +1,6 @@
 -- "The printed verdict": one line, words and decimal numbers with one space between, then a newline; as bytes.
 use Rattle.std.specs.Prelude.{ℕ, zero, suc, ◌+◌, ◌/◌, ◌%◌, true, false, ltb}
 use Prim.Native.Char.{code}
-use Prim.Native.String
 use Prim.Native.String.{String}
 use mathlib.Core.List.{List, [], ◌∷◌, ◌++◌, flat_map}
 use Rattle.rules_plan.specs.declared.Verdict.{Verdict}

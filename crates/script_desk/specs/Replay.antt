@@ -16,7 +16,7 @@ use Rattle.rules_box.specs.declared.Event.TheVariants as event
 use Rattle.rules_box.specs.declared.Answer.{Answer}
 use Rattle.rules_box.specs.declared.Watchdog as five
 use Rattle.rules_box.specs.Answer.{values}
-use Rattle.box_calls.specs.Calls.{Memory, ClearLeaves, LoadLeaves, Lent, StepLeaves}
+use Rattle.box_calls.specs.Calls.{Memory, ClearLeaves, LoadLeaves, StepLeaves}
 use Rattle.script_hex.specs.Hex.{bytes_of}
 use Rattle.script_commands.specs.declared.command.Command.{Command}
 use Rattle.script_commands.specs.declared.command.Command.TheVariants.{Skip, Bad, Load, Clear, TimeCode, Request, Reply, Reading, Out, Watchdog, SetWatchdog, Sheet, Next, Blank, Holds}

@@ -2,7 +2,6 @@
 -- Assumes nothing.
 use mathlib.Core.Path.{ap, ◌∙◌}
 use mathlib.Core.Bool.{Bool, ◌||◌}
-use borrow.Author.Rules.{rules}
 use Rattle.bitsets.specs.Set.{member}
 use Rattle.bitsets.specs.Laws.{member-or}
 use Rattle.bitsets.proofs.add.Goals as goal

@@ -1,7 +1,6 @@
 -- `sets::has` meets its contract: below 64 it reads the digit, and from 64 on a word has no member.
 -- Assumes nothing.
 use mathlib.Core.Path.{refl, sym}
-use borrow.Author.Rules.{rules}
 use Rattle.bitsets.specs.Set.{member}
 use Rattle.bitsets.specs.Laws.{member-beyond}
 use Rattle.bitsets.proofs.has.Goals as goal

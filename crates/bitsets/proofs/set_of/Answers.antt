@@ -1,13 +1,11 @@
 -- `sets::set_of` meets its contract: each turn of the loop puts one element more into the set.
 -- Assumes nothing.
-use mathlib.Core.Path.{◌≡◌, ap, ◌∙◌}
-use Prim.Native.Nat.{ℕ, ◌≤◌, ◌-◌}
+use mathlib.Core.Path.{ap, ◌∙◌}
 use native.Mathlib.Omega.{arith}
-use lib.ListN.{length, take}
 use lib.Seq.{take_all}
 use borrow.Author.Rules.{rules}
 use Rattle.lists.specs.Search.{any, is_in}
-use Rattle.bitsets.specs.Set.{member, listed}
+use Rattle.bitsets.specs.Set.{listed}
 use Rattle.bitsets.specs.Laws.{member-empty}
 use Rattle.bitsets.proofs.Laws.{listed_more}
 use Rattle.bitsets.proofs.set_of.Goals as goal

@@ -1,15 +1,9 @@
 -- `sets::set_of` meets its contract: each turn of the loop puts one element more into the set.
 -- Assumes nothing.
-use mathlib.Core.Path.{◌≡◌, ap, ◌∙◌}
+use mathlib.Core.Path.{◌≡◌}
 use Prim.Native.Nat.{ℕ, ◌≤◌, ◌-◌}
-use native.Mathlib.Omega.{arith}
 use lib.ListN.{length, take}
-use lib.Seq.{take_all}
-use borrow.Author.Rules.{rules}
-use Rattle.lists.specs.Search.{any, is_in}
 use Rattle.bitsets.specs.Set.{member, listed}
-use Rattle.bitsets.specs.Laws.{member-empty}
-use Rattle.bitsets.proofs.Laws.{listed_more}
 use Rattle.bitsets.proofs.set_of.Given as goal
 
 -- The set so far is that of the first i elements.

@@ -1,7 +1,6 @@
 -- `blank::is_blank` meets its contract. Assumes nothing.
 use mathlib.Core.Path.{ap}
 use mathlib.Core.Bool.{not}
-use borrow.Author.Rules.{rules}
 use Rattle.box_calls.specs.laws.Boxes.{holds-cleared}
 use Rattle.lists.specs.laws.Answers.{denied, granted, decides}
 use Rattle.box_blank.proofs.is_blank.Goals as goal

@@ -1,7 +1,6 @@
 -- `blank::plan_blank` meets its contract: memory without a plan is all 0. Assumes nothing.
 use mathlib.Core.Path.{ap}
 use mathlib.Core.Bool.{not}
-use borrow.Author.Rules.{rules}
 use Rattle.memory_plan.specs.laws.BlankMemory.{holds-blank}
 use Rattle.lists.specs.laws.Answers.{denied, granted, decides}
 use Rattle.box_blank.proofs.Zeros.{zeros-are}

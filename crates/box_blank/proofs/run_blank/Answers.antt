@@ -1,7 +1,6 @@
 -- `blank::run_blank` meets its contract. Assumes nothing.
 use mathlib.Core.Path.{ap}
 use mathlib.Core.Bool.{not}
-use borrow.Author.Rules.{rules}
 use Rattle.lists.specs.laws.Answers.{denied, granted, decides}
 use Rattle.box_blank.proofs.Zeros.{zeros_of}
 use Rattle.box_blank.proofs.run_blank.Goals as goal

@@ -3,7 +3,7 @@ use Rattle.std.specs.Prelude.{◌≡◌, ◌↔◌, List, Bool, cond, ℕ, repli
 use Rattle.std.proofs.Math.Path.{refl, sym}
 use Rattle.std.proofs.Common.{◌∙◌, eqb-true}
 use Rattle.std.proofs.Math.Bool.{true, false}
-use Rattle.rules_plan.specs.Plan.{nth, Plan, blank}
+use Rattle.rules_plan.specs.Plan.{Plan, blank}
 use Rattle.rules_plan.specs.Canon.{canonical, given, plan_of}
 use Rattle.rules_plan.specs.laws.Accepted.{accepted-good}
 use Rattle.memory_plan.specs.Memory as plan

@@ -1,6 +1,4 @@
 -- `holds` meets its contract: memory tells plans apart. Assumes nothing.
-use borrow.Author.Rules.{rules}
-use borrow.Author.Tests.{not-true, not-false}
 use Rattle.lists.specs.laws.Answers.{it-is-not}
 use Rattle.box_holds.proofs.Rereads.{refused, reread}
 use Rattle.box_holds.proofs.holds.Goals as goal

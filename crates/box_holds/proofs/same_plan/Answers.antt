@@ -1,7 +1,6 @@
 -- `reread::same_plan` meets its contract. Assumes nothing.
 use mathlib.Core.Path.{ap}
 use mathlib.Core.Bool.{not}
-use borrow.Author.Rules.{rules}
 use Rattle.lists.specs.laws.Answers.{denied, granted, decides}
 use Rattle.box_holds.proofs.same_plan.Goals as goal
 

@@ -1,5 +1,4 @@
 -- The promises, from their proofs and from the contracts of the plan rules and the box rules. Assumes nothing.
-use borrow.Author.Rules.{rules}
 use Rattle.box_promises.proofs.All.{promised}
 use Rattle.box_promises.proofs.promises.Goals as goal
 

@@ -4,7 +4,6 @@ use Prim.Native.Nat.{ℕ, ◌+◌, ◌-◌, ◌≤◌}
 use native.Mathlib.Omega.{arith}
 use lib.ListN.{length, take, drop, length-drop, drop_of_length-le}
 use lib.Seq.{take_all, take-nil, drop-length}
-use borrow.Author.Rules.{rules}
 use Rattle.bytes_get.proofs.part.Goals as goal
 
 pub returns-then-len-start : goal.returns-then-len-start

@@ -1,12 +1,7 @@
 -- `put_bytes` meets its contract. The loop's invariant: the first i bytes of s are put. Assumes nothing.
-use mathlib.Core.Path.{refl}
 use Prim.Native.Nat.{◌+◌, ◌-◌, ◌≤◌}
-use native.Mathlib.Omega.{arith}
 use lib.ListN.{length, take}
-use lib.Seq.{take_all}
-use borrow.Author.Rules.{rules}
 use Rattle.lists.specs.Stores.{Put}
-use Rattle.lists.specs.laws.Stores.{put-more, put-length}
 use Rattle.bytes_put.proofs.put_bytes.Given as goal
 
 abbrev pub invariant-loop-i : goal.invariant-loop-i

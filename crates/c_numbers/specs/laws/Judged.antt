@@ -1,5 +1,5 @@
 -- A verdict on a file can be told from its numbers: none of them is cut, and the number of a fault in the file is neither 0 nor 13 nor 14.
-use Rattle.std.specs.Prelude.{◌≡◌, ◌≢◌, List, Bool, ◌&&◌, ℕ, ◌≤◌, ◌<◌, length, leb, eqb}
+use Rattle.std.specs.Prelude.{◌≡◌, ◌≢◌, List, Bool, ◌&&◌, ℕ, ◌≤◌, ◌<◌, length}
 use Rattle.std.proofs.Math.Path.{refl}
 use Rattle.std.proofs.Common.{sym, ap, ◌∙◌}
 use Rattle.std.proofs.Math.Option.{Option, none, some}

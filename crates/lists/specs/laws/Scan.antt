@@ -1,6 +1,6 @@
 -- Laws of a list gone through from the front: what a test says from place k on, repetitions among the first k; and of the numbers
 -- below n gone through in the same way.
-use Rattle.std.specs.Prelude.{◌≡◌, refl, List, Bool, true, false, ◌||◌, length, get_or, take, drop}
+use Rattle.std.specs.Prelude.{◌≡◌, List, Bool, true, false, ◌||◌, length, get_or, take, drop}
 use Rattle.std.proofs.Math.Path.{ap}
 use Rattle.std.proofs.Common.{◌∙◌, add-one, drop_of_length-le, drop-cons}
 use Prim.Native.Nat.{ℕ, suc, ◌+◌, ◌-◌, ◌≤◌, ◌<◌}

@@ -1,13 +1,12 @@
 -- `clashes::clash_in` meets its contract. The loop's invariant: no row passed meets one after it.
 -- Assumes nothing.
 use mathlib.Core.Path.{ap, ◌∙◌}
-use Prim.Native.Nat.{◌≤◌, ◌-◌}
 use native.Mathlib.Omega.{arith}
 use lib.ListN.{get_or}
 use borrow.Author.Rules.{rules}
 use Rattle.rules_plan.specs.declared.Verdict.TheVariants.{Clash}
 use Rattle.rules_plan.specs.declared.Search.TheVariants.{Found}
-use Rattle.load_clashes.proofs.Clash.{Apart, apart_more, clash-found, clash-nothing}
+use Rattle.load_clashes.proofs.Clash.{apart_more, clash-found, clash-nothing}
 use Rattle.load_clashes.proofs.clash_in.Goals as goal
 
 pub loop-i-init : goal.loop-i-init

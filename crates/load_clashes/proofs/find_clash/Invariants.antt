@@ -1,12 +1,9 @@
 -- `clashes::find_clash` meets its contract. The loop's invariant: no slot passed has a clash.
 -- Assumes nothing.
-use mathlib.Core.Path.{sym, ◌∙◌}
 use Prim.Native.Nat.{◌≤◌, ◌-◌}
-use native.Mathlib.Omega.{arith}
-use borrow.Author.Rules.{rules}
 use Rattle.rules_plan.specs.Plan.{Plan}
 use Rattle.load_slot_links.specs.Lanes.{Searched}
-use Rattle.load_clashes.proofs.Clash.{searched, Quiet, quiet-more, clash-first, clash-never}
+use Rattle.load_clashes.proofs.Clash.{Quiet}
 use Rattle.load_clashes.proofs.find_clash.Given as goal
 
 abbrev pub invariant-loop-slot : goal.invariant-loop-slot

@@ -1,7 +1,6 @@
 -- `clashes::least_common` meets its contract. Assumes nothing.
 use mathlib.Core.Path.{◌∙◌}
 use native.Mathlib.Omega.{arith}
-use borrow.Author.Rules.{rules}
 use Rattle.bitsets.specs.Laws.{least-le}
 use Rattle.load_clashes.proofs.Clash.{least-of-both}
 use Rattle.load_clashes.proofs.least_common.Goals as goal

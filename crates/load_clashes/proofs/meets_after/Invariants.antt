@@ -1,12 +1,8 @@
 -- `clashes::meets_after` meets its contract. The loop's invariant: no row passed has a link of row i's.
 -- Assumes nothing.
-use mathlib.Core.Path.{◌≡◌, sym, ap, ◌∙◌}
-use mathlib.Core.Bool.{not, false}
+use mathlib.Core.Path.{◌≡◌}
+use mathlib.Core.Bool.{false}
 use Prim.Native.Nat.{ℕ, ◌+◌, ◌≤◌, ◌<◌, ◌-◌}
-use native.Mathlib.Omega.{arith}
-use borrow.Author.Count.{below_more}
-use borrow.Author.Rules.{rules}
-use Rattle.lists.specs.laws.Sweep.{first-here, first-none}
 use Rattle.load_clashes.specs.Clashes.{meets}
 use Rattle.load_clashes.proofs.meets_after.Given as goal
 

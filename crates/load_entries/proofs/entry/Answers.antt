@@ -1,8 +1,7 @@
 -- `entry` meets its contract: what each test tells, and a law for each way that the code goes.
 -- Assumes nothing.
-use Rattle.std.proofs.Common.{◌≡◌, ℕ, ◌+◌, ◌*◌, ◌^◌, ◌<◌, ◌≤◌, true, false, ltb, sym, ◌∙◌, ⊎_elim, arith, rules, ltb-false, ltb-true}
+use Rattle.std.proofs.Common.{◌≡◌, ℕ, ◌+◌, ◌*◌, ◌^◌, ◌<◌, ◌≤◌, sym, ◌∙◌, arith, rules}
 use mathlib.Core.List.{Memᴰ}
-use borrow.Author.Tests.{not-true, not-false}
 use Rattle.lists.specs.Search.{twice}
 use Rattle.bitsets.specs.Set.{member, listed, within_of}
 use Rattle.bitsets.specs.Laws.{within-listed}

@@ -1,7 +1,6 @@
 -- `entries::not_reached` meets its contract: test by test.
-use Rattle.std.proofs.Common.{sym, ◌∙◌, rules}
+use Rattle.std.proofs.Common.{sym, ◌∙◌}
 use mathlib.Core.Bool.{and-false}
-use borrow.Author.Tests.{not-true, not-false}
 use Rattle.bitsets.specs.Laws.{within-listed}
 use Rattle.load_entries.proofs.not_reached.Goals as goal
 

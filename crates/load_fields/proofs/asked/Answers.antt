@@ -1,5 +1,4 @@
 -- `fields::asked` meets its contract. Assumes nothing.
-use borrow.Author.Rules.{rules}
 use Rattle.load_fields.proofs.asked.Goals as goal
 
 pub returns-then-tag-eq3 : goal.returns-then-tag-eq3

@@ -2,15 +2,13 @@
 -- The measure is what is left of the file. Assumes nothing.
 use mathlib.Core.Path.{◌≡◌, sym, ◌∙◌}
 use mathlib.Core.Option.{some}
-use Prim.Native.Nat.{◌-◌, ◌≤◌}
 use native.Mathlib.Omega.{arith}
-use lib.ListN.{length}
 use borrow.Author.Rules.{rules}
 use Rattle.rules_plan.specs.Plan.{Item}
 use Rattle.rules_plan.specs.Fields.{item_at}
 use Rattle.load_fields.specs.Fields.{Takes}
 use Rattle.load_fields.proofs.Heads.{Fine, head-fine, content-sized, item-there, item-read}
-use Rattle.load_fields.proofs.Stands.{Stands, starts, ends_there, stops-at-head, awaits, stops-at-item, passes}
+use Rattle.load_fields.proofs.Stands.{starts, ends_there, stops-at-head, awaits, stops-at-item, passes}
 use Rattle.load_fields.proofs.read_fields.Lts as lts
 use Rattle.load_fields.proofs.read_fields.Tie as tie
 use Rattle.load_fields.proofs.read_fields.Reads as reads

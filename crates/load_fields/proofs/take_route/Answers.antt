@@ -5,7 +5,6 @@ use mathlib.Core.Option.{some}
 use Prim.Native.Nat.{ℕ, ◌≤◌}
 use native.Mathlib.Omega.{arith}
 use lib.ListN.{length, drop, length-drop}
-use borrow.Author.Rules.{rules}
 use Rattle.lists.specs.Search.{find}
 use Rattle.lists.specs.laws.Parts.{from-to-end}
 use Rattle.rules_plan.specs.Plan.{nth, Item, reply}

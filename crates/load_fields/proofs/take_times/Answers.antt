@@ -1,6 +1,5 @@
 -- `fields::take_times` meets its contract: the numbers that are read are those of the item. Assumes nothing.
 use mathlib.Core.Path.{◌≡◌, subst}
-use borrow.Author.Rules.{rules}
 use Rattle.rules_plan.specs.Plan.{Item}
 use Rattle.memory_plan.specs.Memory.{numbers_with}
 use Rattle.memory_plan.specs.Take.{item_fault, taken}

@@ -1,9 +1,8 @@
 -- Laws of `sets`: what the three words tell of a device or a link, and a word with one more in it.
-use Rattle.std.specs.Prelude.{◌≡◌, refl, List, Bool, true, false, ◌&&◌, ◌||◌, ℕ, ◌^◌, ◌<◌, set, eqb}
+use Rattle.std.specs.Prelude.{◌≡◌, refl, List, Bool, false, ◌&&◌, ◌||◌, ℕ, ◌^◌, ◌<◌, set, eqb}
 use Rattle.std.proofs.Common.{sym, ◌∙◌, lt-ltb, eq-eqb}
 use Rattle.std.proofs.Math.Path.{ap}
 use Rattle.std.proofs.Math.Bool.{and-true, and-false, or-false, or_comm}
-use Rattle.lists.specs.Search.{any}
 use Rattle.lists.specs.laws.More.{any-more}
 use Rattle.bitsets.specs.Set.{member, added, packed}
 use Rattle.bitsets.specs.Packed.{packed-is, packed-same, member-packed-below}

@@ -1,7 +1,6 @@
 -- `overruns::find_overrun` meets its contract. The loop's invariant: no entry of the rows passed runs on.
 -- Assumes nothing.
 use mathlib.Core.Path.{◌≡◌, ap, subst, ◌∙◌}
-use Prim.Native.Nat.{◌≤◌, ◌-◌}
 use native.Mathlib.Omega.{arith}
 use lib.ListN.{get_or}
 use borrow.Author.Rules.{rules}

@@ -1,12 +1,8 @@
 -- `overruns::overrun_of` meets its contract. The loop's invariant: no entry in the slots passed runs on.
 -- Assumes nothing.
-use mathlib.Core.Path.{◌≡◌, sym, ◌∙◌}
+use mathlib.Core.Path.{◌≡◌}
 use mathlib.Core.Bool.{false}
 use Prim.Native.Nat.{ℕ, ◌<◌, ◌≤◌, ◌-◌}
-use native.Mathlib.Omega.{arith}
-use borrow.Author.Count.{below_more}
-use borrow.Author.Rules.{rules}
-use Rattle.lists.specs.laws.Sweep.{first-here, first-none}
 use Rattle.load_overruns.specs.Overruns.{runs_at}
 use Rattle.load_overruns.proofs.overrun_of.Given as goal
 

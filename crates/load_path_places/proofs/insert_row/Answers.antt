@@ -1,19 +1,16 @@
 -- `path_places::insert_row` meets its contract: the rows from k on have moved, and no row behind has a smaller initiator.
 use mathlib.Core.Path.{◌≡◌, refl, sym, ap, ◌∙◌}
-use mathlib.Core.Logic.{⊎_elim}
 use mathlib.Core.List.{List}
-use mathlib.Core.Bool.{Bool, true, false}
+use mathlib.Core.Bool.{true, false}
 use Prim.Native.Nat.{ℕ, ◌≤◌, ◌<◌, ◌-◌}
 use native.Mathlib.Omega.{arith}
 use lib.ListN.{length, set}
-use lib.Dec.{ltb}
 use borrow.Author.Rules.{rules}
 use borrow.Author.Tests.{lt-ltb, le-ltb}
-use Rattle.lists.specs.Insert.{moved, past_last}
+use Rattle.lists.specs.Insert.{moved}
 use Rattle.lists.specs.laws.Moved.{moved_none, moved_before, moved-turn, moved-set}
 use Rattle.lists.specs.laws.Insert.{past-none, past-here, past-before}
 use Rattle.rules_plan.specs.Plan.{nth}
-use Rattle.load_path_places.specs.Places.{row_place}
 use Rattle.load_path_places.proofs.insert_row.Invariants.{smaller}
 use Rattle.load_path_places.proofs.insert_row.Goals as goal
 use Rattle.load_path_places.proofs.insert_row.Goals.{else-loop-k-test, then-loop-k-test+then-before-initiator}
@@ -53,9 +50,9 @@ returns c =
       λ e f.
           let i = c.loop-k.invariant.1 e f in (
             elim c.loop-k-test.branch [
-              else-loop-k-test w ↦ sym (past-none _ c.loop-k.k (omega (arith, w.loop-k-test.false))) ∙ i.0
-            | then-loop-k-test+then-before-initiator w ↦
-                sym (past-here (smaller a.rows.now a.initiator) c.loop-k.k w.loop-k-test.true (smaller-read _ _ _ _ _ w.loop-k-test.true (omega arith) (omega arith) i.1 w.if-before-initiator.true)) ∙ i.0
+              | else-loop-k-test w ↦ sym (past-none _ c.loop-k.k (omega (arith, w.loop-k-test.false))) ∙ i.0
+              | then-loop-k-test+then-before-initiator w ↦
+                  sym (past-here (smaller a.rows.now a.initiator) c.loop-k.k w.loop-k-test.true (smaller-read _ _ _ _ _ w.loop-k-test.true (omega arith) (omega arith) i.1 w.if-before-initiator.true)) ∙ i.0
             ],
             ap (λ ys. set ys c.loop-k.k a.initiator) i.1 ∙ moved-set c.loop-k.k a.count a.initiator a.rows.now (omega arith) (omega arith),
             ap (λ ys. set ys c.loop-k.k 0) i.2 ∙ moved-set c.loop-k.k a.count 0 a.reach.now (omega arith) (omega arith),

@@ -1,17 +1,11 @@
 -- `path_places::insert_row` meets its contract: the rows from k on have moved, and no row behind has a smaller initiator.
-use mathlib.Core.Path.{◌≡◌, refl, sym, ap, ◌∙◌}
-use mathlib.Core.Logic.{⊎_elim}
+use mathlib.Core.Path.{◌≡◌}
 use mathlib.Core.List.{List}
-use mathlib.Core.Bool.{Bool, true, false}
-use Prim.Native.Nat.{ℕ, ◌≤◌, ◌<◌, ◌-◌}
-use native.Mathlib.Omega.{arith}
-use lib.ListN.{length, set}
+use mathlib.Core.Bool.{Bool}
+use Prim.Native.Nat.{ℕ, ◌≤◌}
+use lib.ListN.{length}
 use lib.Dec.{ltb}
-use borrow.Author.Rules.{rules}
-use borrow.Author.Tests.{lt-ltb, le-ltb}
 use Rattle.lists.specs.Insert.{moved, past_last}
-use Rattle.lists.specs.laws.Moved.{moved_none, moved_before, moved-turn, moved-set}
-use Rattle.lists.specs.laws.Insert.{past-none, past-here, past-before}
 use Rattle.rules_plan.specs.Plan.{nth}
 use Rattle.load_path_places.specs.Places.{row_place}
 use Rattle.load_path_places.proofs.insert_row.Given as goal

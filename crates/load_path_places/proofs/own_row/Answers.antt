@@ -5,7 +5,6 @@ use native.Mathlib.Omega.{arith}
 use Rattle.rules_plan.specs.Plan.{nth}
 use Rattle.memory_plan.specs.Rows.{row_among}
 use Rattle.load_path_places.specs.laws.OwnRow.{old_row, old-array, made_row, made_array, old-count, new-count}
-use borrow.Author.Rules.{rules}
 use Rattle.load_path_places.proofs.own_row.Goals as goal
 
 pub overflow_cast-row : goal.overflow_cast-row

@@ -1,10 +1,7 @@
 -- `path_places::place_of` meets its contract: the place is between low and high.
 use mathlib.Core.Path.{sym, ◌∙◌}
-use Prim.Native.Nat.{ℕ, ◌-◌, ◌≤◌, ◌<◌}
 use native.Mathlib.Omega.{arith}
 use borrow.Author.Rules.{rules}
-use borrow.Author.Tests.{not-true, not-false}
-use Rattle.load_path_places.specs.Places.{IsPlace}
 use Rattle.load_path_places.specs.laws.PathPlace.{place-upto, place-past}
 use Rattle.load_path_places.proofs.place_of.Goals as goal
 

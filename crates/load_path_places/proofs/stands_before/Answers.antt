@@ -1,6 +1,5 @@
 -- `path_places::stands_before` meets its contract: with the same initiator the targets decide, else the initiators.
 use Prim.Native.Nat.{◌+◌, ◌*◌}
-use borrow.Author.Rules.{rules}
 use Rattle.rules_plan.specs.Plan.{nth}
 use Rattle.load_path_places.specs.laws.PathPlace.{by-target, by-initiator}
 use Rattle.load_path_places.proofs.stands_before.Goals as goal

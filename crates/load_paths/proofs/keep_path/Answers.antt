@@ -7,7 +7,6 @@ use Rattle.load_path_faults.specs.Routes.{route}
 use Rattle.load_path_places.specs.laws.OwnRow.{count-keeps}
 use Rattle.load_paths.specs.laws.Stored.{reach-stored, numbers-stored}
 use Rattle.load_paths.specs.laws.Stored.{paths-stored}
-use borrow.Author.Rules.{rules}
 use Rattle.load_paths.proofs.keep_path.Lts as lts
 use Rattle.load_paths.proofs.keep_path.Tie as tie
 use Rattle.load_paths.proofs.keep_path.Reads as reads

@@ -1,11 +1,8 @@
 -- `paths::make_room` meets its contract: the bytes from n on have moved.
-use mathlib.Core.Path.{◌≡◌, refl}
+use mathlib.Core.Path.{◌≡◌}
 use Prim.Native.Nat.{◌≤◌, ◌-◌}
-use native.Mathlib.Omega.{arith}
 use lib.ListN.{length}
-use borrow.Author.Rules.{rules}
 use Rattle.lists.specs.Insert.{moved}
-use Rattle.lists.specs.laws.Moved.{moved_none, moved-turn}
 use Rattle.load_paths.proofs.make_room.Given as goal
 
 abbrev pub invariant-loop-n : goal.invariant-loop-n

@@ -1,6 +1,5 @@
 -- `path_asked` meets its contract. Assumes nothing.
 use mathlib.Core.Path.{refl}
-use borrow.Author.Rules.{rules}
 use Rattle.load_paths.proofs.path_asked.Goals as goal
 
 pub returns : goal.returns

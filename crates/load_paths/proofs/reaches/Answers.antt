@@ -1,7 +1,6 @@
 -- `reaches` meets its contract. Assumes nothing.
 use mathlib.Core.Path.{refl}
 use native.Mathlib.Omega.{arith}
-use borrow.Author.Rules.{rules}
 use Rattle.load_paths.proofs.reaches.Goals as goal
 
 pub returns-then-row-ge-ROWS : goal.returns-then-row-ge-ROWS

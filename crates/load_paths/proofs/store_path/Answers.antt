@@ -1,8 +1,7 @@
 -- `paths::store_path` meets its contract: behind the first three bytes stand the first k of the eight places for links.
 use mathlib.Core.Path.{◌≡◌, refl, sym, ◌∙◌}
-use mathlib.Core.Logic.{⊎_elim}
 use mathlib.Core.List.{List, [], ◌∷◌}
-use Prim.Native.Nat.{ℕ, ◌+◌, ◌-◌, ◌≤◌, ◌<◌}
+use Prim.Native.Nat.{ℕ, ◌+◌, ◌≤◌, ◌<◌}
 use native.Mathlib.Numerals.{add-one, add-two}
 use native.Mathlib.Omega.{arith}
 use lib.ListN.{length, set, length-set, get_or-eq_default}
@@ -44,9 +43,9 @@ loop-k-preserved c = (
       let a = c.args in
       let q = c.loop-k.invariant.1 e in
       elim c.if-k-n.branch [
-        then-k-n w ↦ w.paths-is ∙ one_link _ _ a.links.now (a.at + 3) c.loop-k.k _ (omega arith) (omega arith) (omega arith) q refl
-      | else-k-n w ↦
-          w.paths-is ∙ one_link _ _ a.links.now (a.at + 3) c.loop-k.k _ (omega arith) (omega arith) (omega arith) q (sym (get_or-eq_default a.links.now 0 w.if-k-n.false))
+        | then-k-n w ↦ w.paths-is ∙ one_link _ _ a.links.now (a.at + 3) c.loop-k.k _ (omega arith) (omega arith) (omega arith) q refl
+        | else-k-n w ↦
+            w.paths-is ∙ one_link _ _ a.links.now (a.at + 3) c.loop-k.k _ (omega arith) (omega arith) (omega arith) q (sym (get_or-eq_default a.links.now 0 w.if-k-n.false))
       ],
 )
 

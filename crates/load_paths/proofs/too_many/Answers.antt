@@ -1,5 +1,4 @@
 -- `too_many` meets its contract: test by test. Assumes nothing.
-use borrow.Author.Rules.{rules}
 use borrow.Author.Tests.{le-leb, lt-leb}
 use Rattle.load_paths.proofs.too_many.Goals as goal
 

@@ -1,6 +1,6 @@
 -- Memory that holds a plan holds, once a path without a fault is kept, the plan with the path.
 use Rattle.std.specs.Prelude.{◌≡◌, List, [], ℕ, ◌≤◌, length}
-use Rattle.std.proofs.Common.{sym, ap, ◌∙◌, arith}
+use Rattle.std.proofs.Common.{sym, ap, ◌∙◌}
 use Rattle.lists.specs.laws.Cells.{length-padded}
 use Rattle.rules_plan.specs.Plan.{nth, Route, Plan, path}
 use Rattle.rules_plan.specs.laws.Fair.{Fair}

@@ -1,5 +1,4 @@
 -- `has_reply` meets its contract: beyond the last place there is no path. Assumes nothing.
-use borrow.Author.Rules.{rules}
 use borrow.Author.Tests.{lt-ltb, le-ltb}
 use Rattle.load_replies.specs.Home.{has_row}
 use Rattle.load_replies.proofs.has_reply.Goals as goal

@@ -1,7 +1,6 @@
 -- `put_home` meets its contract: a plan with times has them in range, and the pair's path a row and a target below 64. Assumes nothing.
 use mathlib.Core.Path.{sym, ◌∙◌}
 use native.Mathlib.Omega.{arith}
-use borrow.Author.Rules.{rules}
 use Rattle.rules_plan.specs.laws.Sheets.{times-range}
 use Rattle.load_replies.specs.laws.KeptCost.{pace_in, untimed, some-row, some-target, stored}
 use Rattle.load_replies.proofs.put_home.Goals as goal

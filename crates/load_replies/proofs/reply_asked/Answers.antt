@@ -1,7 +1,6 @@
 -- `reply_asked` meets its contract. Assumes nothing.
 use mathlib.Core.Path.{refl, ap}
 use native.Mathlib.Omega.{arith}
-use borrow.Author.Rules.{rules}
 use Rattle.rules_plan.specs.Plan.{nth}
 use Rattle.memory_plan.specs.Memory.{numbers_with}
 use Rattle.load_replies.proofs.reply_asked.Goals as goal

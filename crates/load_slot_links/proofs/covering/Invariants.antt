@@ -3,11 +3,7 @@
 use mathlib.Core.Path.{◌≡◌}
 use mathlib.Core.Bool.{false}
 use Prim.Native.Nat.{ℕ, ◌<◌, ◌≤◌, ◌-◌}
-use native.Mathlib.Omega.{arith}
-use borrow.Author.Count.{below_more}
-use borrow.Author.Rules.{rules}
 use Rattle.load_slot_links.specs.Lanes.{covers_from}
-use Rattle.load_slot_links.specs.laws.Cover.{cover-not, cover-found, cover-nothing}
 use Rattle.load_slot_links.proofs.covering.Given as goal
 
 abbrev pub invariant-loop-back : goal.invariant-loop-back

@@ -1,13 +1,10 @@
 -- `slot_links::lanes_in` meets its contract. The loop's invariant: the rows passed have their sets.
 -- Assumes nothing.
-use mathlib.Core.Path.{◌≡◌, ◌∙◌}
-use Prim.Native.Nat.{◌≤◌, ◌-◌}
+use mathlib.Core.Path.{◌∙◌}
 use native.Mathlib.Omega.{arith}
-use lib.ListN.{length, length-set}
+use lib.ListN.{length-set}
 use borrow.Author.Rules.{rules}
-use Rattle.rules_plan.specs.Plan.{Plan}
-use Rattle.load_slot_links.specs.Lanes.{Searched}
-use Rattle.load_slot_links.specs.laws.Lanes.{Filled, filled_more, filled-all}
+use Rattle.load_slot_links.specs.laws.Lanes.{filled_more, filled-all}
 use Rattle.load_slot_links.proofs.lanes_in.Goals as goal
 
 pub loop-row-init : goal.loop-row-init

@@ -1,13 +1,11 @@
 -- `slot_links::lanes_in` meets its contract. The loop's invariant: the rows passed have their sets.
 -- Assumes nothing.
-use mathlib.Core.Path.{◌≡◌, ◌∙◌}
+use mathlib.Core.Path.{◌≡◌}
 use Prim.Native.Nat.{◌≤◌, ◌-◌}
-use native.Mathlib.Omega.{arith}
-use lib.ListN.{length, length-set}
-use borrow.Author.Rules.{rules}
+use lib.ListN.{length}
 use Rattle.rules_plan.specs.Plan.{Plan}
 use Rattle.load_slot_links.specs.Lanes.{Searched}
-use Rattle.load_slot_links.specs.laws.Lanes.{Filled, filled_more, filled-all}
+use Rattle.load_slot_links.specs.laws.Lanes.{Filled}
 use Rattle.load_slot_links.proofs.lanes_in.Given as goal
 
 abbrev pub invariant-loop-row : goal.invariant-loop-row

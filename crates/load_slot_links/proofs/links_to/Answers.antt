@@ -1,9 +1,8 @@
 -- `slot_links::links_to` meets its contract. The loop's invariant: the links are those of the paths passed that count.
 -- Assumes nothing.
 use mathlib.Core.Path.{◌≡◌, ap, ◌∙◌}
-use Prim.Native.Nat.{ℕ, ◌≤◌, ◌-◌, min}
+use Prim.Native.Nat.{min}
 use native.Mathlib.Omega.{arith}
-use borrow.Author.Rules.{rules}
 use Rattle.lists.specs.Numbers.{any_below}
 use Rattle.lists.specs.laws.Sweep.{any-more}
 use Rattle.bitsets.specs.Set.{member}

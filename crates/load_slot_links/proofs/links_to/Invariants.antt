@@ -1,13 +1,9 @@
 -- `slot_links::links_to` meets its contract. The loop's invariant: the links are those of the paths passed that count.
 -- Assumes nothing.
-use mathlib.Core.Path.{◌≡◌, ap, ◌∙◌}
+use mathlib.Core.Path.{◌≡◌}
 use Prim.Native.Nat.{ℕ, ◌≤◌, ◌-◌, min}
-use native.Mathlib.Omega.{arith}
-use borrow.Author.Rules.{rules}
 use Rattle.lists.specs.Numbers.{any_below}
-use Rattle.lists.specs.laws.Sweep.{any-more}
 use Rattle.bitsets.specs.Set.{member}
-use Rattle.bitsets.specs.Laws.{member-empty}
 use Rattle.load_slot_links.specs.Lanes.{leads_over}
 use Rattle.load_slot_links.proofs.links_to.Given as goal
 

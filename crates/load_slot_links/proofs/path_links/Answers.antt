@@ -2,7 +2,6 @@
 use mathlib.Core.Path.{ap, ◌∙◌}
 use Prim.Native.Nat.{◌+◌, ◌*◌}
 use native.Mathlib.Omega.{arith}
-use borrow.Author.Rules.{rules}
 use Rattle.bitsets.specs.Set.{listed}
 use Rattle.load_slot_links.specs.laws.Paths.{links-part}
 use Rattle.load_slot_links.proofs.path_links.Goals as goal

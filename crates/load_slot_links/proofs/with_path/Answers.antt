@@ -1,7 +1,6 @@
 -- `slot_links::with_path` meets its contract. Assumes nothing.
 use mathlib.Core.Path.{sym, ap, ap₂, ◌∙◌}
 use mathlib.Core.Bool.{◌||◌}
-use borrow.Author.Rules.{rules}
 use Rattle.bitsets.specs.Set.{member}
 use Rattle.load_slot_links.specs.laws.Paths.{not-from, not-to, from-to}
 use Rattle.load_slot_links.proofs.with_path.Goals as goal

@@ -1,6 +1,5 @@
 -- `put_cost` meets its contract: a path of the plan has a row and a target below 64. Assumes nothing.
 use native.Mathlib.Omega.{arith}
-use borrow.Author.Rules.{rules}
 use Rattle.time_sheet.specs.Paced.{paced}
 use Rattle.load_times.specs.laws.Filled.{some-row, some-target, stored}
 use Rattle.load_times.proofs.put_cost.Goals as goal

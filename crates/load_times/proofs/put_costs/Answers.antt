@@ -1,13 +1,9 @@
 -- `put_costs` meets its contract: before each turn the first k paths have their fixed times. Assumes nothing.
 use mathlib.Core.Path.{◌≡◌, subst}
-use mathlib.Core.List.{List}
-use Prim.Native.Nat.{ℕ, ◌-◌, ◌≤◌}
+use Prim.Native.Nat.{ℕ}
 use native.Mathlib.Omega.{arith}
 use lib.ListN.{length}
 use borrow.Author.Rules.{rules}
-use Rattle.rules_plan.specs.Plan.{Plan}
-use Rattle.rules_plan.specs.laws.Fair.{Fair}
-use Rattle.memory_plan.specs.Memory.{rows_of, paths_of}
 use Rattle.time_sheet.specs.Paced.{paced}
 use Rattle.load_times.specs.Filling.{Filling}
 use Rattle.load_times.specs.laws.Filled.{paths-counted}

@@ -3,7 +3,6 @@
 use mathlib.Core.Path.{sym, ◌∙◌}
 use native.Mathlib.Nat.{mul-le-mul}
 use native.Mathlib.Omega.{arith}
-use borrow.Author.Rules.{rules}
 use Rattle.rules_plan.specs.laws.Sheets.{times-range}
 use Rattle.time_sheet.specs.Paced.{paced}
 use Rattle.load_times.specs.laws.Kept.{rate-over, slot-over, in-range, front, begins, ends, refused, kept}

@@ -1,6 +1,5 @@
 -- `keep_turns` meets its contract. Assumes nothing.
 use mathlib.Core.Path.{◌∙◌}
-use borrow.Author.Rules.{rules}
 use Rattle.load_turns.specs.laws.Marks.{marked-both}
 use Rattle.load_turns.proofs.keep_turns.Goals as goal
 

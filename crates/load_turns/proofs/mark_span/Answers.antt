@@ -1,10 +1,7 @@
 -- `mark_span` meets its contract. Assumes nothing.
 use mathlib.Core.Path.{◌≡◌}
-use Prim.Native.Nat.{◌-◌, ◌≤◌}
 use native.Mathlib.Omega.{arith}
-use lib.ListN.{length}
 use borrow.Author.Rules.{rules}
-use Rattle.load_turns.specs.Marked.{Marked, is_span}
 use Rattle.load_turns.proofs.Span.{span-begin, span-next}
 use Rattle.load_turns.proofs.mark_span.Goals as goal
 

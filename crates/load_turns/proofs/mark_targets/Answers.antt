@@ -1,10 +1,9 @@
 -- `mark_targets` meets its contract. Assumes nothing.
-use mathlib.Core.Path.{◌≡◌, refl}
-use Prim.Native.Nat.{◌-◌, ◌≤◌, ◌<◌}
+use mathlib.Core.Path.{refl}
+use Prim.Native.Nat.{◌<◌}
 use native.Mathlib.Omega.{arith}
-use lib.ListN.{length, get_or, take}
+use lib.ListN.{get_or}
 use borrow.Author.Rules.{rules}
-use Rattle.load_turns.specs.Marked.{Marked, is_target}
 use Rattle.load_turns.proofs.Targets.{low-target, targets-begin, targets_next, targets-done}
 use Rattle.load_turns.proofs.mark_targets.Lts as lts
 use Rattle.load_turns.proofs.mark_targets.Tie as tie

@@ -1,11 +1,8 @@
 -- `mark_targets` meets its contract. Assumes nothing.
-use mathlib.Core.Path.{◌≡◌, refl}
-use Prim.Native.Nat.{◌-◌, ◌≤◌, ◌<◌}
-use native.Mathlib.Omega.{arith}
-use lib.ListN.{length, get_or, take}
-use borrow.Author.Rules.{rules}
+use mathlib.Core.Path.{◌≡◌}
+use Prim.Native.Nat.{◌-◌, ◌≤◌}
+use lib.ListN.{length, take}
 use Rattle.load_turns.specs.Marked.{Marked, is_target}
-use Rattle.load_turns.proofs.Targets.{low-target, targets-begin, targets_next, targets-done}
 use Rattle.load_turns.proofs.mark_targets.Given as goal
 
 abbrev pub invariant-loop-n : goal.invariant-loop-n

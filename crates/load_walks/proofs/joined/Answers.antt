@@ -1,11 +1,10 @@
 -- `walks::joined` meets its contract: the bits of the two ends, which stand beside each other.
-use mathlib.Core.Path.{◌≡◌, ap, ap₂, ◌∙◌}
+use mathlib.Core.Path.{◌≡◌, ap₂, ◌∙◌}
 use mathlib.Core.List.{List}
 use mathlib.Core.Bool.{◌||◌}
 use Prim.Native.Nat.{ℕ, ◌+◌, ◌*◌, ◌%◌, ◌<◌}
 use native.Mathlib.Omega.{arith}
 use lib.Bits.{bit_or}
-use borrow.Author.Rules.{rules}
 use Rattle.bitsets.specs.Set.{member, alone}
 use Rattle.bitsets.specs.Laws.{member-or}
 use Rattle.rules_plan.specs.Plan.{nth}

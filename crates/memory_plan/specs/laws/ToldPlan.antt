@@ -18,7 +18,7 @@ use Rattle.lists.specs.laws.Told.{cells_told, append-told, padded-told, even-len
 use Rattle.lists.specs.laws.OneOrder.{Among}
 use Rattle.bitsets.specs.Set.{member, packed}
 use Rattle.bitsets.specs.Packed.{member-packed-below}
-use Rattle.rules_plan.specs.Plan.{nth, Device, Link, Route, Timing, Times, Plan, path}
+use Rattle.rules_plan.specs.Plan.{nth, Device, Link, Route, Timing, Times, Plan}
 use Rattle.rules_plan.specs.Meaning.{has_kind, is_link, initiators, least_of, greatest_of, times_of}
 use Rattle.rules_plan.specs.Judge.{out_of_range}
 use Rattle.rules_plan.specs.Canon.{small_first}

@@ -1,13 +1,8 @@
 -- `writing_items::put_devices` meets its contract. The loop's invariant: the fields of the devices before the least that is left are put. Assumes nothing.
 use Prim.Native.Nat.{◌-◌}
-use native.Mathlib.Omega.{arith}
-use borrow.Author.Rules.{rules}
-use Rattle.lists.specs.Numbers.{digit}
 use Rattle.bitsets.specs.Set.{least_of}
-use Rattle.bitsets.specs.Laws.{least-le}
-use Rattle.bitsets.specs.Walk.{Walk, walk-begin, walk-less, walk-next, walk-done}
+use Rattle.bitsets.specs.Walk.{Walk}
 use Rattle.out_items.specs.Out.{device_bytes}
-use Rattle.out_items.proofs.Parts.{device-off, device-on}
 use Rattle.out_items.proofs.put_devices.Given as goal
 
 abbrev pub invariant-loop-rest : goal.invariant-loop-rest

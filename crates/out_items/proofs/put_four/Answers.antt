@@ -1,6 +1,5 @@
 -- `writing_items::put_four` meets its contract. Assumes nothing.
 use Rattle.rules_plan.specs.Fields.{four_bytes}
-use borrow.Author.Rules.{rules}
 use Rattle.out_items.proofs.put_four.Goals as goal
 
 pub returns : goal.returns

@@ -1,10 +1,8 @@
 -- `writing_items::put_links` meets its contract. The loop's invariant: the fields of the links before the least that is left are put. Assumes nothing.
-use Prim.Native.Nat.{◌-◌}
 use native.Mathlib.Omega.{arith}
 use borrow.Author.Rules.{rules}
-use Rattle.bitsets.specs.Set.{least_of}
 use Rattle.bitsets.specs.Laws.{least-le}
-use Rattle.bitsets.specs.Walk.{Walk, walk-begin, walk-low, walk-less, walk-next, walk-done}
+use Rattle.bitsets.specs.Walk.{walk-begin, walk-low, walk-less, walk-next, walk-done}
 use Rattle.out_items.specs.Out.{link_bytes}
 use Rattle.out_items.proofs.Parts.{link-off, link_on}
 use Rattle.out_items.proofs.put_links.Goals as goal

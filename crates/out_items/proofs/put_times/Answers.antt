@@ -1,6 +1,5 @@
 -- `put_times` meets its contract: nothing is put without a rate, and with one the seven parts of the field one behind the other. Assumes nothing.
 use Rattle.out_items.proofs.Parts.{no-times, times-puts}
-use borrow.Author.Rules.{rules}
 use Rattle.out_items.proofs.put_times.Goals as goal
 
 pub returns-then-rate-eq0 : goal.returns-then-rate-eq0

@@ -1,6 +1,5 @@
 -- `writing_items::put_timing` meets its contract. Assumes nothing.
 use Rattle.out_items.proofs.Parts.{timing-puts}
-use borrow.Author.Rules.{rules}
 use Rattle.out_items.proofs.put_timing.Goals as goal
 
 pub returns : goal.returns

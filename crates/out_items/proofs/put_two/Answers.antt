@@ -1,6 +1,5 @@
 -- `put_two` meets its contract. Assumes nothing.
 use Rattle.rules_plan.specs.Fields.{two_bytes}
-use borrow.Author.Rules.{rules}
 use Rattle.out_items.proofs.put_two.Goals as goal
 
 pub returns : goal.returns

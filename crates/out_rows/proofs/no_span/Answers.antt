@@ -1,9 +1,8 @@
 -- `writing_rows::no_span` meets its contract. The loop's invariant: the word joins the first j of the eight bytes. Assumes nothing.
-use Prim.Native.Nat.{◌-◌}
 use native.Mathlib.Omega.{arith}
 use borrow.Author.Rules.{rules}
 use borrow.Author.Tests.{eqb-true}
-use Rattle.out_rows.proofs.Eights.{Joined, joined-begin, joined-next}
+use Rattle.out_rows.proofs.Eights.{joined-begin, joined-next}
 use Rattle.out_rows.proofs.no_span.Goals as goal
 
 pub loop-j-init : goal.loop-j-init

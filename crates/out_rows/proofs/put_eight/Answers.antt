@@ -1,9 +1,9 @@
 -- `writing_rows::put_eight` meets its contract. The loop's invariant: the fields of the cells from n up to j are put. Assumes nothing.
 use mathlib.Core.Path.{◌≡◌}
-use Prim.Native.Nat.{ℕ, ◌+◌, ◌-◌, ◌≤◌}
+use Prim.Native.Nat.{ℕ, ◌+◌, ◌-◌}
 use native.Mathlib.Omega.{arith}
 use borrow.Author.Rules.{rules}
-use Rattle.lists.specs.laws.Puts.{Turns, turns-begin, turns_next, turns-done}
+use Rattle.lists.specs.laws.Puts.{turns-begin, turns_next, turns-done}
 use Rattle.out_rows.specs.Out.{entry_bytes, eight_bytes}
 use Rattle.out_rows.proofs.Eights.{no-entries}
 use Rattle.out_rows.proofs.put_eight.Goals as goal

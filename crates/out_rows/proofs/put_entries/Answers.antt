@@ -1,7 +1,6 @@
 -- `writing_rows::put_entries` meets its contract. The loop's invariant: the fields of the first n cells are put. Assumes nothing.
-use Prim.Native.Nat.{◌-◌}
 use borrow.Author.Rules.{rules}
-use Rattle.out_rows.proofs.Eights.{Eights, eights-begin, eights-next, eights-done}
+use Rattle.out_rows.proofs.Eights.{eights-begin, eights-next, eights-done}
 use Rattle.out_rows.proofs.put_entries.Goals as goal
 
 pub loop-n-init : goal.loop-n-init

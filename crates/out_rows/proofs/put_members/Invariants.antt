@@ -1,13 +1,8 @@
 -- `writing_rows::put_members` meets its contract. The loop's invariant: the members before the least that is left are put. Assumes nothing.
 use Prim.Native.Nat.{◌-◌}
-use native.Mathlib.Omega.{arith}
-use lib.ListN.{length-set}
-use borrow.Author.Rules.{rules}
-use Rattle.lists.specs.laws.Stores.{put_one}
 use Rattle.bitsets.specs.Set.{least_of}
-use Rattle.bitsets.specs.Laws.{least-le}
-use Rattle.bitsets.specs.Walk.{Walk, walk-begin, walk-less, walk-next, walk-done}
-use Rattle.out_rows.proofs.Parts.{member_byte, member-off, member-on, members-rise, member-room}
+use Rattle.bitsets.specs.Walk.{Walk}
+use Rattle.out_rows.proofs.Parts.{member_byte}
 use Rattle.out_rows.proofs.put_members.Given as goal
 
 abbrev pub invariant-loop-rest : goal.invariant-loop-rest

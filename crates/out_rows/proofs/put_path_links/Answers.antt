@@ -1,10 +1,8 @@
 -- `writing_rows::put_path_links` meets its contract. The loop's invariant: the first i links are put. Assumes nothing.
 use mathlib.Core.Path.{refl}
-use Prim.Native.Nat.{◌+◌, ◌-◌, ◌≤◌}
 use native.Mathlib.Omega.{arith}
 use borrow.Author.Rules.{rules}
 use Rattle.lists.specs.Search.{up_from}
-use Rattle.lists.specs.Stores.{Put}
 use Rattle.lists.specs.laws.Stores.{put-length}
 use Rattle.out_rows.specs.Out.{links_from}
 use Rattle.out_rows.proofs.Parts.{links-more, links-all}

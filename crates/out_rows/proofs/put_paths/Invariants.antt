@@ -1,8 +1,7 @@
 -- `writing_rows::put_paths` meets its contract. The loop's invariant: the fields of the first n rows are put. Assumes nothing.
 use Prim.Native.Nat.{◌-◌}
 use Rattle.out_rows.specs.Out.{row_bytes}
-use borrow.Author.Rules.{rules}
-use Rattle.lists.specs.laws.Puts.{Turns, turns-begin, turns_next, turns-done}
+use Rattle.lists.specs.laws.Puts.{Turns}
 use Rattle.out_rows.proofs.put_paths.Given as goal
 
 abbrev pub invariant-loop-n : goal.invariant-loop-n

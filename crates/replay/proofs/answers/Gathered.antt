@@ -1,5 +1,5 @@
 -- What is gathered: written, or one answer more put behind the others. Assumes nothing.
-use Rattle.std.proofs.Common.{◌≡◌, ℕ, ◌+◌, ◌-◌, ◌<◌, ◌≤◌, Bool, true, false, ltb, List, ◌++◌, length, take, drop, sym, refl, ap, arith, length-append, take_at, ltb-false, le-ltb, lt-ltb}
+use Rattle.std.proofs.Common.{◌≡◌, ℕ, ◌+◌, ◌-◌, ◌<◌, ◌≤◌, Bool, true, false, ltb, List, length, take, drop, sym, refl, ap, arith, length-append, take_at, ltb-false, le-ltb, lt-ltb}
 use Rattle.lists.specs.Puts.{Puts}
 use Rattle.lists.specs.laws.Bools.{not-both}
 use Rattle.rules_box.specs.declared.Watchdog.{Watchdog}

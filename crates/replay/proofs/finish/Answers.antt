@@ -1,5 +1,4 @@
 -- `replay::finish` meets its contract. Assumes nothing.
-use Rattle.std.proofs.Common.{rules}
 use Rattle.replay.proofs.Rounds.{finishes-nothing, finishes-last}
 use Rattle.replay.proofs.finish.Goals as goal
 

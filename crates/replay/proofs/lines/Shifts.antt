@@ -1,5 +1,5 @@
 -- Bytes moved to the front, one by one: those before place i are moved, those from it on are as they were. Assumes nothing.
-use Rattle.std.proofs.Common.{◌≡◌, ℕ, suc, ◌+◌, ◌-◌, ◌<◌, ◌≤◌, List, [], ◌∷◌, ◌++◌, length, get_or, take, drop, set, sym, refl, ap, ◌∙◌, add-one, arith, length-drop, length-set, take-append-drop, get_or-drop, take-suc, drop-drop, take-suc-set, drop-set-lt}
+use Rattle.std.proofs.Common.{◌≡◌, ℕ, ◌+◌, ◌<◌, ◌≤◌, List, ◌++◌, length, get_or, take, drop, set, sym, refl, ap, ◌∙◌, add-one, arith, length-drop, length-set, take-append-drop, get_or-drop, take-suc, drop-drop, take-suc-set, drop-set-lt}
 
 pub record Shifted (s₀ : List ℕ) (from n : ℕ) (s : List ℕ) (i : ℕ) : Type 0 where
   pub upto : i ≤ n

@@ -1,10 +1,8 @@
 -- `replay::serve` meets its contract. The loop's invariant: rounds brought it here, none of them failed, and the bytes that are left have room in the buffer. Assumes nothing.
-use Rattle.std.proofs.Common.{◌≡◌, ◌-◌, ◌≤◌, false, length, sym, refl, ◌∙◌, arith, length-take-le, rules}
+use Rattle.std.proofs.Common.{◌≡◌, ◌-◌, ◌≤◌, false, length}
 use Rattle.box_calls.specs.Calls.{memory}
 use Rattle.replay.specs.Gather.{stand}
-use Rattle.replay.specs.Rounds.{Rounds, none}
-use Rattle.replay.proofs.Takes.{taken-within}
-use Rattle.replay.proofs.Rounds.{rounds-more, serves-finished, serves-unread, serves-unwritten}
+use Rattle.replay.specs.Rounds.{Rounds}
 use Rattle.replay.proofs.serve.Given as goal
 
 abbrev pub invariant-loop-turns : goal.invariant-loop-turns

@@ -1,5 +1,5 @@
 -- `replay::take_lines` meets its contract. Assumes nothing.
-use Rattle.std.proofs.Common.{sym, length-take-le, rules}
+use Rattle.std.proofs.Common.{sym, length-take-le}
 use Rattle.replay.proofs.Takes.{start-within, taken-room, taken-full}
 use Rattle.replay.proofs.take_lines.Goals as goal
 

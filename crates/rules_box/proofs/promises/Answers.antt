@@ -1,5 +1,4 @@
 -- The promises, from their proofs and from the contract of the plan rules. Assumes nothing.
-use borrow.Author.Rules.{rules}
 use Rattle.rules_box.proofs.All.{promised}
 use Rattle.rules_box.proofs.promises.Goals as goal
 

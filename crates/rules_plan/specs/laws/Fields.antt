@@ -9,7 +9,7 @@ use Rattle.std.proofs.Math.ListN.{length, drop, get_or-eq_default}
 use Rattle.std.proofs.Math.Seq.{get_or-drop, take-append_seam, drop-append_seam}
 use Rattle.lists.specs.Search.{find, up_from}
 use Rattle.lists.specs.laws.Append.{spelled}
-use Rattle.rules_plan.specs.Plan.{nth, two, Item, device, link, path, entry, timing, times, reply}
+use Rattle.rules_plan.specs.Plan.{nth, Item, device, link, path, entry, timing, times, reply}
 use Rattle.rules_plan.specs.Fields.{tags, tag_of, item_of, length_allowed, as_device, as_link, as_path, as_entry, as_timing, as_times, as_reply, two_bytes, four_bytes, tag_for, content_for, field_for, tag_at, size_at, content_at, next_at, item_at}
 use Rattle.rules_plan.specs.Judge.{out_of_range}
 use Rattle.rules_plan.specs.Good.{Bytes}

@@ -1,7 +1,7 @@
 -- `find_row` meets its contract: every place passed is not permitted. Assumes nothing.
-use Rattle.std.proofs.Common.{◌-◌, ◌≤◌, arith, rules}
+use Rattle.std.proofs.Common.{arith}
 use Rattle.memory_run.specs.laws.RowWords.{count_at}
-use Rattle.run_line.proofs.Finds.{Sought, seek-begin, seek-next, seek_found, seek-none}
+use Rattle.run_line.proofs.Finds.{seek-begin, seek-next, seek_found, seek-none}
 use Rattle.run_line.proofs.find_row.Goals as goal
 
 pub loop-i-init : goal.loop-i-init

@@ -1,7 +1,6 @@
 -- `find_row` meets its contract: every place passed is not permitted. Assumes nothing.
-use Rattle.std.proofs.Common.{◌-◌, ◌≤◌, arith, rules}
-use Rattle.memory_run.specs.laws.RowWords.{count_at}
-use Rattle.run_line.proofs.Finds.{Sought, seek-begin, seek-next, seek_found, seek-none}
+use Rattle.std.proofs.Common.{◌-◌, ◌≤◌}
+use Rattle.run_line.proofs.Finds.{Sought}
 use Rattle.run_line.proofs.find_row.Given as goal
 
 abbrev pub invariant-loop-i : goal.invariant-loop-i

@@ -1,5 +1,5 @@
 -- `join_row` meets its contract. Assumes nothing.
-use Rattle.std.proofs.Common.{arith, rules}
+use Rattle.std.proofs.Common.{arith}
 use Rattle.memory_run.specs.laws.RowWords.{count_at}
 use Rattle.memory_plan.specs.View.{owner}
 use Rattle.run_line.proofs.Rows.{joins}

@@ -1,5 +1,5 @@
 -- `move_up` meets its contract: place 0 is place k. Assumes nothing.
-use Rattle.std.proofs.Common.{◌≡◌, ℕ, List, [], ◌∷◌, ◌++◌, sym, ap, ◌∙◌, rules}
+use Rattle.std.proofs.Common.{◌≡◌, ℕ, [], ◌∷◌, ◌++◌, sym, ap, ◌∙◌, rules}
 use Rattle.lists.specs.Place.{without}
 use Rattle.run_line.proofs.move_up.Goals as goal
 

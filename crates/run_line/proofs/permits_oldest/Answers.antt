@@ -1,5 +1,5 @@
 -- `permits_oldest` meets its contract: the oldest is what is found, or it is passed. Assumes nothing.
-use Rattle.std.proofs.Common.{refl, arith, rules}
+use Rattle.std.proofs.Common.{refl, arith}
 use Rattle.lists.specs.laws.Bools.{not-both}
 use Rattle.run_line.proofs.Finds.{oldest-none, oldest-told}
 use Rattle.run_line.proofs.permits_oldest.Goals as goal

@@ -1,5 +1,5 @@
 -- `permits_word` meets its contract: target and least span come apart from the word. Assumes nothing.
-use Rattle.std.proofs.Common.{◌∙◌, rules}
+use Rattle.std.proofs.Common.{◌∙◌}
 use Rattle.run_line.proofs.Words.{allows-word}
 use Rattle.run_line.proofs.permits_word.Goals as goal
 

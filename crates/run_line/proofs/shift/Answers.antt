@@ -1,6 +1,6 @@
 -- `shift` meets its contract: up to place k the places are still the old ones; from there on the first j are the new line's, the
 -- others the old one's. Assumes nothing.
-use Rattle.std.proofs.Common.{◌≡◌, ℕ, ◌+◌, ◌-◌, ◌<◌, ◌≤◌, List, ◌++◌, length, get_or, take, drop, set, refl, ap, ◌∙◌, arith, length-set, rules}
+use Rattle.std.proofs.Common.{◌≡◌, ℕ, ◌+◌, ◌<◌, ◌≤◌, List, ◌++◌, length, get_or, take, drop, set, refl, ap, ◌∙◌, arith, length-set, rules}
 use Rattle.lists.specs.Place.{without}
 use Rattle.lists.specs.laws.Lines.{move-none, move-next, move-last}
 use Rattle.run_line.proofs.shift.Invariants.{Moved}

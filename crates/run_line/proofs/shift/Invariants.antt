@@ -1,8 +1,7 @@
 -- `shift` meets its contract: up to place k the places are still the old ones; from there on the first j are the new line's, the
 -- others the old one's. Assumes nothing.
-use Rattle.std.proofs.Common.{◌≡◌, ℕ, ◌+◌, ◌-◌, ◌<◌, ◌≤◌, List, ◌++◌, length, get_or, take, drop, set, refl, ap, ◌∙◌, arith, length-set, rules}
+use Rattle.std.proofs.Common.{◌≡◌, ℕ, ◌-◌, ◌≤◌, List, ◌++◌, length, take, drop}
 use Rattle.lists.specs.Place.{without}
-use Rattle.lists.specs.laws.Lines.{move-none, move-next, move-last}
 use Rattle.run_line.proofs.shift.Given as goal
 
 -- the places m before turn j, of the old ones q

@@ -1,6 +1,5 @@
 -- `take_row` meets its contract. Assumes nothing.
 use Rattle.run_line.proofs.Rows.{left}
-use Rattle.std.proofs.Common.{rules}
 use Rattle.run_line.proofs.take_row.Goals as goal
 
 pub returns : goal.returns

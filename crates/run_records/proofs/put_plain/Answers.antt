@@ -1,6 +1,5 @@
 -- `put_plain` meets its contract. Assumes nothing.
 use Rattle.rules_box.specs.Records.{record_bytes, plain}
-use Rattle.std.proofs.Common.{rules}
 use Rattle.run_records.proofs.put_plain.Goals as goal
 
 pub returns : goal.returns

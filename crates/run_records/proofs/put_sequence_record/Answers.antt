@@ -1,5 +1,5 @@
 -- `put_sequence_record` meets its contract. Assumes nothing.
-use Rattle.std.proofs.Common.{refl, arith, rules}
+use Rattle.std.proofs.Common.{refl, arith}
 use Rattle.lists.specs.laws.Bools.{not-both}
 use Rattle.run_records.proofs.Laws.{plain-next, sequence-in, sequence-out}
 use Rattle.run_records.proofs.put_sequence_record.Goals as goal

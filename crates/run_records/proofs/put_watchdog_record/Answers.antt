@@ -1,5 +1,5 @@
 -- `put_watchdog_record` meets its contract. Assumes nothing.
-use Rattle.std.proofs.Common.{arith, rules}
+use Rattle.std.proofs.Common.{arith}
 use Rattle.run_records.proofs.Laws.{plain-next, watchdog-early, watchdog-late, watchdog-none}
 use Rattle.run_records.proofs.put_watchdog_record.Goals as goal
 

@@ -2,7 +2,7 @@
 use mathlib.Core.Path.{◌≡◌, ap, ◌∙◌, fun_ext}
 use mathlib.Core.List.{List, [], ◌++◌, flat_map}
 use mathlib.Core.Bool.{Bool, true, false}
-use Prim.Native.Nat.{ℕ, ◌+◌}
+use Prim.Native.Nat.{ℕ}
 use Rattle.lists.specs.Puts.{Puts}
 use Rattle.lists.specs.laws.Append.{flat_append}
 use Rattle.lists.specs.laws.Flat.{flat-none}

@@ -2,7 +2,6 @@
 use mathlib.Core.Path.{refl}
 use native.Mathlib.Omega.{arith}
 use Rattle.run_turns.proofs.Ages.{ages-none, ages-late, ages-young}
-use borrow.Author.Rules.{rules}
 use Rattle.run_turns.proofs.age_row.Goals as goal
 
 pub returns-then-time-eq0 : goal.returns-then-time-eq0

@@ -1,7 +1,6 @@
 -- `begin_at` meets its contract: the word at place k is that of the request which leaves. Assumes nothing.
 use native.Mathlib.Omega.{arith}
 use Rattle.run_turns.proofs.Starts.{begins-at}
-use borrow.Author.Rules.{rules}
 use Rattle.run_turns.proofs.begin_at.Goals as goal
 
 pub returns : goal.returns

@@ -10,7 +10,6 @@ use lib.Seq.{length-take-le, take_at}
 use Rattle.lists.specs.Puts.{Puts}
 use Rattle.lists.specs.laws.Stores.{put_front}
 use Rattle.rules_plan.specs.declared.Verdict.{Verdict}
-use Rattle.rules_plan.specs.Judge.{judge}
 use Rattle.rules_plan.specs.declared.Verdict.TheVariants.{Accepted, Faulty, Overrun, Clash}
 use Rattle.rules_plan.specs.Verdict.{place}
 use Rattle.rules_plan.specs.Print.{text, numbers, words, line}

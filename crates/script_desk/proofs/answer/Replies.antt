@@ -17,7 +17,7 @@ use Rattle.time_sheet.specs.Paced.{paced}
 use Rattle.rules_box.specs.declared.Event.TheVariants as event
 use Rattle.rules_box.specs.declared.Watchdog as five
 use Rattle.rules_box.specs.State.{cleared, watchdog_cleared}
-use Rattle.box_calls.specs.Calls.{Memory, At, ClearLeaves}
+use Rattle.box_calls.specs.Calls.{At, ClearLeaves}
 use Rattle.script_hex.specs.Hex.{bytes_of, decoded}
 use Rattle.script_hex.specs.laws.Bytes.{bytes-decoded}
 use Rattle.script_commands.specs.declared.command.Command.{Command}

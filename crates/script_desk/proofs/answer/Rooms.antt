@@ -1,10 +1,10 @@
 -- The front of a buffer that is all 0, lent and handed back. Assumes nothing.
 use mathlib.Core.Path.{◌≡◌, refl, sym, ap, ◌∙◌}
-use mathlib.Core.List.{List, [], ◌∷◌, ◌++◌}
-use Prim.Native.Nat.{ℕ, zero, suc, ◌+◌, ◌≤◌}
+use mathlib.Core.List.{List, ◌∷◌, ◌++◌}
+use Prim.Native.Nat.{ℕ, zero, suc, ◌≤◌}
 use native.Mathlib.Omega.{arith}
 use lib.ListN.{length, take, drop, replicate, length-append, length-replicate}
-use lib.Seq.{length-take-le, take_at}
+use lib.Seq.{take_at}
 
 front-zero : (n room : ℕ) → room ≤ n → take room (replicate {A = ℕ} n 0) ≡ replicate room 0
 front-zero n zero h = refl

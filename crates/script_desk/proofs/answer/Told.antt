@@ -1,5 +1,5 @@
 -- An event and writing out answered. Assumes nothing.
-use mathlib.Core.Path.{◌≡◌, refl, sym, ap, ◌∙◌}
+use mathlib.Core.Path.{◌≡◌, refl}
 use mathlib.Core.List.{List, ◌++◌}
 use mathlib.Core.Option.{Option}
 use Prim.Native.Nat.{ℕ, ◌≤◌}
@@ -12,7 +12,7 @@ use Rattle.rules_box.specs.declared.Answer.{Answer}
 use Rattle.rules_box.specs.declared.Watchdog.{Watchdog}
 use Rattle.rules_box.specs.Answer.{Values, values}
 use Rattle.run_events.specs.Values.{listed}
-use Rattle.box_calls.specs.Calls.{Memory, memory, with_run, StepLeaves}
+use Rattle.box_calls.specs.Calls.{memory, with_run}
 use Rattle.memory_run.specs.Memory.{Steps}
 use Rattle.script_answers.specs.Texts.{event_line, out_line, Prints}
 use Rattle.script_desk.specs.Replay.{Kept, kept, Stepped, HeldIn, WrittenOut, Answers}

@@ -1,11 +1,8 @@
 -- `hex::all_hex` meets its contract. The loop's invariant: what is left decides. Assumes nothing.
-use mathlib.Core.Path.{◌≡◌, refl, sym, ◌∙◌}
+use mathlib.Core.Path.{◌≡◌}
 use Prim.Native.Nat.{◌-◌, ◌≤◌}
 use lib.ListN.{length, drop}
-use borrow.Author.Rules.{rules}
-use borrow.Author.Tests.{not-true, not-false}
 use Rattle.lists.specs.Search.{all}
-use Rattle.lists.specs.laws.Scan.{all-miss, all-on, all_end}
 use Rattle.script_hex.specs.Hex.{is_hex}
 use Rattle.script_hex.proofs.all_hex.Given as goal
 

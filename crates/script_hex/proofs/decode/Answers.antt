@@ -1,13 +1,8 @@
 -- `hex::decode` meets its contract. The loop's invariant: the first i bytes are put. Assumes nothing.
 use mathlib.Core.Path.{sym, ◌∙◌}
-use Prim.Native.Nat.{◌+◌, ◌-◌, ◌/◌, ◌≤◌}
 use native.Mathlib.Omega.{arith}
-use lib.ListN.{length, take}
 use borrow.Author.Rules.{rules}
-use borrow.Author.Tests.{not-true, not-false}
-use Rattle.lists.specs.Stores.{Put}
 use Rattle.lists.specs.laws.Stores.{put-none, put-length}
-use Rattle.script_hex.specs.Hex.{pairs_of}
 use Rattle.script_hex.proofs.Pairs.{put-pair, no_bytes, no_room, every_byte}
 use Rattle.script_hex.proofs.decode.Goals as goal
 

@@ -1,5 +1,4 @@
 -- `hex::hex_digit` meets its contract. Assumes nothing.
-use borrow.Author.Rules.{rules}
 use Rattle.script_hex.proofs.Text.{number-digit, letter-digit}
 use Rattle.script_hex.proofs.hex_digit.Goals as goal
 

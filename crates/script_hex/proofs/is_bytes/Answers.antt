@@ -1,7 +1,6 @@
 -- `hex::is_bytes` meets its contract. Assumes nothing.
 use mathlib.Core.Path.{◌∙◌}
 use native.Mathlib.Omega.{arith}
-use borrow.Author.Rules.{rules}
 use Rattle.script_hex.proofs.Pairs.{one_byte, no_byte, too_long, half-pair, in_pairs}
 use Rattle.script_hex.proofs.is_bytes.Goals as goal
 

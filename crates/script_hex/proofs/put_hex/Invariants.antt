@@ -2,14 +2,9 @@
 use mathlib.Core.Path.{◌≡◌}
 use mathlib.Core.List.{flat_map}
 use Prim.Native.Nat.{◌+◌, ◌-◌, ◌*◌, ◌≤◌}
-use native.Mathlib.Omega.{arith}
-use lib.ListN.{length, take, length-set}
-use borrow.Author.Rules.{rules}
+use lib.ListN.{length, take}
 use Rattle.lists.specs.Stores.{Put}
-use Rattle.lists.specs.laws.Stores.{put-none, put-length}
-use Rattle.rules_plan.specs.Print.{text}
 use Rattle.script_hex.specs.Hex.{hex_byte}
-use Rattle.script_hex.proofs.Text.{no_bytes, no_room, byte_more, every_byte}
 use Rattle.script_hex.proofs.put_hex.Given as goal
 
 abbrev pub invariant-loop-i : goal.invariant-loop-i

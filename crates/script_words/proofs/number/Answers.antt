@@ -1,8 +1,6 @@
 -- `words::number` meets its contract. The loop's invariant: n is the number of the first i bytes, all digits. Assumes nothing.
-use Prim.Native.Nat.{◌-◌, ◌≤◌, ◌<◌}
-use lib.ListN.{length}
 use borrow.Author.Rules.{rules}
-use Rattle.script_words.proofs.Digits.{FirstDigits, low_byte, high_byte, digits-begin, digits-next, empty-word, no_digit, too-great, all_digits}
+use Rattle.script_words.proofs.Digits.{low_byte, high_byte, digits-begin, digits-next, empty-word, no_digit, too-great, all_digits}
 use Rattle.script_words.proofs.number.Goals as goal
 
 pub returns-then-word-eq0 : goal.returns-then-word-eq0

@@ -1,13 +1,8 @@
 -- `words::numbers` meets its contract. The loop's invariant: the first i numbers are read, the words up to `at`. Assumes nothing.
-use mathlib.Core.Path.{sym}
-use Prim.Native.Nat.{◌+◌, ◌-◌}
-use native.Mathlib.Omega.{arith}
+use Prim.Native.Nat.{◌-◌}
 use lib.ListN.{length, drop}
-use lib.Seq.{length-take-le}
-use borrow.Author.Rules.{rules}
-use Rattle.lists.specs.laws.Parts.{from-to-end}
 use Rattle.script_words.specs.Reading.{behind_word}
-use Rattle.script_words.proofs.Several.{FirstRead, read-begin, word-missing, number-missing, number_small, read_next, read-end}
+use Rattle.script_words.proofs.Several.{FirstRead}
 use Rattle.script_words.proofs.numbers.Given as goal
 
 abbrev pub invariant-loop-i : goal.invariant-loop-i

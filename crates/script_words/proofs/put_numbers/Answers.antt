@@ -1,11 +1,8 @@
 -- `words::put_numbers` meets its contract. The loop's invariant: of the numbers behind the first those up to place i are put. Assumes nothing.
-use mathlib.Core.Path.{◌≡◌, refl, ◌∙◌}
-use Prim.Native.Nat.{◌-◌, ◌≤◌}
+use mathlib.Core.Path.{refl, ◌∙◌}
 use native.Mathlib.Omega.{arith}
-use lib.ListN.{length}
 use borrow.Author.Rules.{rules}
-use Rattle.lists.specs.Puts.{Puts}
-use Rattle.script_words.proofs.Rows.{behind_first, no-numbers, first-number, next-number, every-number}
+use Rattle.script_words.proofs.Rows.{no-numbers, first-number, next-number, every-number}
 use Rattle.script_words.proofs.put_numbers.Goals as goal
 
 pub returns-then-ns-eq0 : goal.returns-then-ns-eq0

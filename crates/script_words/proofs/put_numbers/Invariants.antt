@@ -1,11 +1,9 @@
 -- `words::put_numbers` meets its contract. The loop's invariant: of the numbers behind the first those up to place i are put. Assumes nothing.
-use mathlib.Core.Path.{◌≡◌, refl, ◌∙◌}
+use mathlib.Core.Path.{◌≡◌}
 use Prim.Native.Nat.{◌-◌, ◌≤◌}
-use native.Mathlib.Omega.{arith}
 use lib.ListN.{length}
-use borrow.Author.Rules.{rules}
 use Rattle.lists.specs.Puts.{Puts}
-use Rattle.script_words.proofs.Rows.{behind_first, no-numbers, first-number, next-number, every-number}
+use Rattle.script_words.proofs.Rows.{behind_first}
 use Rattle.script_words.proofs.put_numbers.Given as goal
 
 abbrev pub invariant-loop-i : goal.invariant-loop-i

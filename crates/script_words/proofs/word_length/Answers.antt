@@ -1,8 +1,6 @@
 -- `words::word_length` meets its contract. The loop's invariant: the first i bytes hold no space. Assumes nothing.
-use Prim.Native.Nat.{◌-◌, ◌≤◌}
-use lib.ListN.{length}
 use borrow.Author.Rules.{rules}
-use Rattle.script_words.specs.laws.Words.{InWord, in-word-begin}
+use Rattle.script_words.specs.laws.Words.{in-word-begin}
 use Rattle.script_words.proofs.Split.{in-word-next, word-space, word-last}
 use Rattle.script_words.proofs.word_length.Goals as goal
 

@@ -1,9 +1,7 @@
 -- `words::word_length` meets its contract. The loop's invariant: the first i bytes hold no space. Assumes nothing.
 use Prim.Native.Nat.{◌-◌, ◌≤◌}
 use lib.ListN.{length}
-use borrow.Author.Rules.{rules}
-use Rattle.script_words.specs.laws.Words.{InWord, in-word-begin}
-use Rattle.script_words.proofs.Split.{in-word-next, word-space, word-last}
+use Rattle.script_words.specs.laws.Words.{InWord}
 use Rattle.script_words.proofs.word_length.Given as goal
 
 abbrev pub invariant-loop-i : goal.invariant-loop-i

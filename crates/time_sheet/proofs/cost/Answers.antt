@@ -1,6 +1,5 @@
 -- `cost` meets its contract. Assumes nothing.
 use native.Mathlib.Omega.{arith}
-use borrow.Author.Rules.{rules}
 use Rattle.time_sheet.specs.Paced.{paced}
 use Rattle.time_sheet.proofs.Laws.{cost-is, cost-fits}
 use Rattle.time_sheet.proofs.cost.Goals as goal

@@ -1,7 +1,6 @@
 -- `header_time` meets its contract. Assumes nothing.
 use native.Mathlib.Omega.{arith}
 use Rattle.rules_plan.specs.Sheet.{header}
-use borrow.Author.Rules.{rules}
 use Rattle.time_sheet.proofs.header_time.Goals as goal
 
 pub returns : goal.returns

@@ -1,7 +1,6 @@
 -- `no_sheet` meets its contract: each test refuses what is not in range. Assumes nothing.
 use mathlib.Core.Path.{sym, ◌∙◌}
 use native.Mathlib.Omega.{arith}
-use borrow.Author.Rules.{rules}
 use Rattle.time_sheet.proofs.Laws.{refused, by_length, no-times}
 use Rattle.time_sheet.proofs.no_sheet.Goals as goal
 

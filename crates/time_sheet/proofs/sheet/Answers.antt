@@ -1,6 +1,5 @@
 -- `sheet` meets its contract. Assumes nothing.
 use mathlib.Core.Path.{sym, ◌∙◌}
-use borrow.Author.Rules.{rules}
 use Rattle.time_sheet.proofs.Laws.{sheet-range, answer-refused}
 use Rattle.time_sheet.proofs.sheet.Goals as goal
 

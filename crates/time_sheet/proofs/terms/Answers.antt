@@ -1,5 +1,4 @@
 -- `terms` meets its contract. Assumes nothing.
-use borrow.Author.Rules.{rules}
 use Rattle.time_sheet.proofs.Laws.{terms-are}
 use Rattle.time_sheet.proofs.terms.Goals as goal
 

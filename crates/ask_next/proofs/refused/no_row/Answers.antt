@@ -1,8 +1,6 @@
 -- `no_row` meets its contract. Assumes nothing.
 use mathlib.Core.Path.{sym, ◌∙◌}
-use borrow.Author.Tests.{not-true, not-false}
 use Rattle.ask_next.specs.Refused.{no_row}
-use borrow.Author.Rules.{rules}
 use Rattle.ask_next.proofs.refused.no_row.Goals as goal
 
 pub returns-then-not-is_loaded : goal.returns-then-not-is_loaded

@@ -1,5 +1,4 @@
 -- `calls::clear::clear` meets its contract. Assumes nothing.
-use borrow.Author.Rules.{rules}
 use Rattle.box_calls.specs.laws.Boxes.{holds-cleared}
 use Rattle.box_calls.proofs.clear.clear.Goals as goal
 

@@ -1,6 +1,5 @@
 -- `calls::load::load` meets its contract. Assumes nothing.
 use native.Mathlib.Omega.{arith}
-use borrow.Author.Rules.{rules}
 use Rattle.box_calls.specs.laws.Boxes.{holds-loaded, load-watchdog}
 use Rattle.box_calls.proofs.load.load.Goals as goal
 

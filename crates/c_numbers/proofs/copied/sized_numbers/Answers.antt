@@ -2,7 +2,6 @@
 use mathlib.Core.Path.{sym, ap}
 use Rattle.rules_plan.specs.Copy.{sized}
 use Rattle.c_numbers.specs.Numbers.{sized_numbers}
-use borrow.Author.Rules.{rules}
 use Rattle.c_numbers.proofs.copied.sized_numbers.Goals as goal
 
 pub returns-in-NotWritten : goal.returns-in-NotWritten

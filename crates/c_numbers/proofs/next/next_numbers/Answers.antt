@@ -1,7 +1,6 @@
 -- `next_numbers` meets its contract. Assumes nothing.
 use mathlib.Core.Path.{sym, ap}
 use Rattle.rules_plan.specs.Next.{next_numbers}
-use borrow.Author.Rules.{rules}
 use Rattle.c_numbers.proofs.next.next_numbers.Goals as goal
 
 pub returns-in-NoTurn : goal.returns-in-NoTurn

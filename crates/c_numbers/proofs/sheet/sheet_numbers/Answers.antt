@@ -1,7 +1,6 @@
 -- `c_numbers::sheet::sheet_numbers` meets its contract. Assumes nothing.
 use mathlib.Core.Path.{sym, ap}
 use Rattle.rules_plan.specs.Sheet.{sheet_numbers}
-use borrow.Author.Rules.{rules}
 use Rattle.c_numbers.proofs.sheet.sheet_numbers.Goals as goal
 
 pub returns-in-NoSheet : goal.returns-in-NoSheet

@@ -3,7 +3,6 @@ use mathlib.Core.Path.{sym, ap}
 use Rattle.lists.specs.Cells.{padded}
 use Rattle.rules_plan.specs.Verdict.{number, place}
 use Rattle.c_numbers.specs.Numbers.{verdict_numbers}
-use borrow.Author.Rules.{rules}
 use Rattle.c_numbers.proofs.verdict.numbers_of.Goals as goal
 
 pub returns-in-Accepted : goal.returns-in-Accepted

@@ -1,7 +1,6 @@
 -- `c_numbers::verdict::verdict_of` meets its contract: each arm is a case of the definition. Assumes nothing.
 use native.Mathlib.Omega.{arith}
 use Rattle.c_numbers.specs.laws.Verdicts.{accepted, overran, clashed, faulty}
-use borrow.Author.Rules.{rules}
 use Rattle.c_numbers.proofs.verdict.verdict_of.Goals as goal
 
 pub returns-in-0 : goal.returns-in-0

@@ -1,12 +1,10 @@
 -- `reader::field::head_at` meets its contract: each way out knows the tests of the rows up to the one that decides.
 -- Assumes nothing.
 use mathlib.Core.Path.{◌≡◌, refl, sym, ap, ◌∙◌}
-use mathlib.Core.Logic.{⊎_elim}
 use mathlib.Core.Bool.{Bool, false, not}
 use Prim.Native.Nat.{ℕ}
 use native.Mathlib.Omega.{arith}
 use lib.ListN.{length}
-use borrow.Author.Rules.{rules}
 use borrow.Author.Tests.{le-ltb}
 use Rattle.lists.specs.Rows.{first_of}
 use Rattle.rules_plan.specs.Fields.{is_tag, length_allowed, tag_at, size_at, next_at}

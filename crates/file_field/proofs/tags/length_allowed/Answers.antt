@@ -3,7 +3,6 @@ use mathlib.Core.Path.{refl, ◌∙◌}
 use mathlib.Core.Logic.{◌≢◌}
 use Prim.Native.Nat.{ℕ, ◌≤◌}
 use native.Mathlib.Omega.{arith}
-use borrow.Author.Rules.{rules}
 use Rattle.lists.specs.Search.{find}
 use Rattle.rules_plan.specs.Fields.{tags, tag_of}
 use Rattle.file_field.specs.laws.Tags.{allowed-by, none_allowed}

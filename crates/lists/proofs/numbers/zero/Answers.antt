@@ -1,8 +1,6 @@
 -- `lists::numbers::zero` meets its contract. Assumes nothing.
-use Prim.Native.Nat.{◌-◌}
-use lib.ListN.{length}
 use borrow.Author.Rules.{rules}
-use Rattle.lists.proofs.Alike.{Alike, zeros, other-than-zero, zeros-begin, zeros-next, alike_end}
+use Rattle.lists.proofs.Alike.{other-than-zero, zeros-begin, zeros-next, alike_end}
 use Rattle.lists.proofs.numbers.zero.Goals as goal
 
 pub loop-i-init : goal.loop-i-init

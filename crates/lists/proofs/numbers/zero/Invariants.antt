@@ -1,8 +1,7 @@
 -- `lists::numbers::zero` meets its contract. Assumes nothing.
 use Prim.Native.Nat.{◌-◌}
 use lib.ListN.{length}
-use borrow.Author.Rules.{rules}
-use Rattle.lists.proofs.Alike.{Alike, zeros, other-than-zero, zeros-begin, zeros-next, alike_end}
+use Rattle.lists.proofs.Alike.{Alike, zeros}
 use Rattle.lists.proofs.numbers.zero.Given as goal
 
 abbrev pub invariant-loop-i : goal.invariant-loop-i

@@ -1,8 +1,6 @@
 -- `lists::words::same` meets its contract. Assumes nothing.
-use Prim.Native.Nat.{◌-◌}
-use lib.ListN.{length}
 use borrow.Author.Rules.{rules}
-use Rattle.lists.proofs.Alike.{Alike, other_length, other-here, alike-begin, alike_next, alike_end}
+use Rattle.lists.proofs.Alike.{other_length, other-here, alike-begin, alike_next, alike_end}
 use Rattle.lists.proofs.words.same.Goals as goal
 
 pub returns-then-a-b : goal.returns-then-a-b

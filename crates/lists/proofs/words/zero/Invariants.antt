@@ -1,8 +1,7 @@
 -- `lists::words::zero` meets its contract. Assumes nothing.
 use Prim.Native.Nat.{◌-◌}
 use lib.ListN.{length}
-use borrow.Author.Rules.{rules}
-use Rattle.lists.proofs.Alike.{Alike, zeros, other-than-zero, zeros-begin, zeros-next, alike_end}
+use Rattle.lists.proofs.Alike.{Alike, zeros}
 use Rattle.lists.proofs.words.zero.Given as goal
 
 abbrev pub invariant-loop-i : goal.invariant-loop-i

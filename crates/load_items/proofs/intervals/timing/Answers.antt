@@ -1,6 +1,5 @@
 -- `intervals::timing` meets its contract: intervals out of range leave the numbers as they are, others go into them.
 -- Assumes nothing.
-use borrow.Author.Rules.{rules}
 use Rattle.load_items.proofs.intervals.Ranges.{timing-none, timing-over, timing-turned, timing-fits}
 use Rattle.load_items.proofs.intervals.Timings.{timing-refused, timing-taken}
 use Rattle.load_items.proofs.intervals.timing.Goals as goal

@@ -7,7 +7,6 @@ use Prim.Native.Nat.{ℕ, ◌+◌, ◌*◌, min, max}
 use native.Mathlib.Omega.{arith}
 use lib.ListN.{set}
 use borrow.Author.Rules.{rules}
-use borrow.Author.Tests.{not-true, not-false}
 use Rattle.bitsets.specs.Set.{member}
 use Rattle.rules_plan.specs.Plan.{nth, Link, link}
 use Rattle.rules_plan.specs.Judge.{out_of_range}

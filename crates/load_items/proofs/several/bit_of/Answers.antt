@@ -3,7 +3,6 @@
 use mathlib.Core.Path.{◌≡◌, ap, ◌∙◌}
 use Prim.Native.Nat.{ℕ, ◌*◌, ◌%◌, ◌^◌, ◌<◌}
 use native.Mathlib.Omega.{arith}
-use borrow.Author.Rules.{rules}
 use Rattle.bitsets.specs.Set.{member, alone}
 use Rattle.bitsets.proofs.Laws.{alone-low}
 use Rattle.load_items.proofs.several.bit_of.Goals as goal

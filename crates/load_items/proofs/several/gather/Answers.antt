@@ -4,7 +4,7 @@
 use mathlib.Core.Path.{◌≡◌, sym, ap, ap₂, ◌∙◌}
 use mathlib.Core.List.{List}
 use mathlib.Core.Bool.{Bool, false, ◌&&◌, ◌||◌, and-true}
-use Prim.Native.Nat.{ℕ, ◌+◌, ◌-◌, ◌/◌, ◌%◌, ◌^◌, ◌≤◌, ◌<◌}
+use Prim.Native.Nat.{ℕ, ◌+◌, ◌/◌, ◌%◌, ◌^◌, ◌≤◌, ◌<◌}
 use native.Mathlib.Nat.{div-one}
 use native.Mathlib.Omega.{arith}
 use lib.Bits.{bit_or}
@@ -18,7 +18,7 @@ use Rattle.lists.specs.laws.Scan.{twice-next}
 use Rattle.bitsets.specs.Set.{member, alone, listed}
 use Rattle.bitsets.specs.Laws.{member-empty, member-or}
 use Rattle.rules_plan.specs.Judge.{over63}
-use Rattle.load_items.proofs.Gathers.{Gathers, gathers-none, none_before, next_low, gathers-next, gathers-all}
+use Rattle.load_items.proofs.Gathers.{gathers-none, none_before, next_low, gathers-next, gathers-all}
 use Rattle.load_items.proofs.several.gather.Invariants.{Passed}
 use Rattle.load_items.proofs.several.gather.Goals as goal
 

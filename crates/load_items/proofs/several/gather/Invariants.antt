@@ -1,24 +1,15 @@
 -- `items::several::gather` meets its contract: where no number is over 63, the lowest bit of the sets, each moved down by the number that
 -- comes next, tells whether that number was among those before.
 -- Assumes nothing.
-use mathlib.Core.Path.{◌≡◌, sym, ap, ap₂, ◌∙◌}
+use mathlib.Core.Path.{◌≡◌}
 use mathlib.Core.List.{List}
-use mathlib.Core.Bool.{Bool, false, ◌&&◌, ◌||◌, and-true}
-use Prim.Native.Nat.{ℕ, ◌+◌, ◌-◌, ◌/◌, ◌%◌, ◌^◌, ◌≤◌, ◌<◌}
-use native.Mathlib.Nat.{div-one}
-use native.Mathlib.Omega.{arith}
-use lib.Bits.{bit_or}
-use lib.Dec.{ltb}
-use lib.ListN.{length, get_or, take}
-use lib.Seq.{take_all}
-use borrow.Author.Rules.{rules}
-use borrow.Author.Tests.{lt-ltb}
-use Rattle.lists.specs.Search.{any, repeats, is_in, twice}
-use Rattle.lists.specs.laws.Scan.{twice-next}
-use Rattle.bitsets.specs.Set.{member, alone, listed}
-use Rattle.bitsets.specs.Laws.{member-empty, member-or}
+use mathlib.Core.Bool.{false}
+use Prim.Native.Nat.{ℕ, ◌-◌}
+use lib.ListN.{length, take}
+use Rattle.lists.specs.Search.{any, twice}
+use Rattle.bitsets.specs.Set.{member}
 use Rattle.rules_plan.specs.Judge.{over63}
-use Rattle.load_items.proofs.Gathers.{Gathers, gathers-none, none_before, next_low, gathers-next, gathers-all}
+use Rattle.load_items.proofs.Gathers.{Gathers}
 use Rattle.load_items.proofs.several.gather.Given as goal
 
 -- what is known after the first k numbers

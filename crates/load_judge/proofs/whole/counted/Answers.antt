@@ -1,6 +1,5 @@
 -- `whole::counted` meets its contract: a set has 64 members at most, and as many as the plan has devices or links. Assumes nothing.
 use native.Mathlib.Omega.{arith}
-use borrow.Author.Rules.{rules}
 use Rattle.bitsets.specs.Laws.{size-le}
 use Rattle.rules_plan.specs.Plan.{nth}
 use Rattle.load_judge.proofs.whole.Counts.{counts-are}

@@ -1,7 +1,6 @@
 -- `plan::load::load` meets its contract: what is refused is cleared again. Assumes nothing.
 use mathlib.Core.Path.{◌≡◌, sym, ap, ◌∙◌}
 use native.Mathlib.Omega.{arith}
-use borrow.Author.Rules.{rules}
 use Rattle.rules_plan.specs.Verdict.{number}
 use Rattle.load_plan.specs.laws.Loaded.{leaves-plan, leaves_none}
 use Rattle.load_plan.proofs.load.load.Goals as goal

@@ -1,6 +1,5 @@
 -- `plan::load::number_of` meets its contract: each arm knows the verdict's case. Assumes nothing.
 use mathlib.Core.Path.{sym, ap}
-use borrow.Author.Rules.{rules}
 use Rattle.rules_plan.specs.Verdict.{number}
 use Rattle.load_plan.proofs.load.number_of.Goals as goal
 

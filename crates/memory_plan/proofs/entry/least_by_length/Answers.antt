@@ -1,6 +1,5 @@
 -- `least_by_length` meets its contract. Assumes nothing.
 use native.Mathlib.Omega.{arith}
-use borrow.Author.Rules.{rules}
 use Rattle.memory_plan.proofs.entry.Laws.{one_more, least-within}
 use Rattle.memory_plan.proofs.entry.least_by_length.Goals as goal
 

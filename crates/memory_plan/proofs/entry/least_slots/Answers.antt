@@ -1,6 +1,5 @@
 -- `least_slots` meets its contract: before each halving the need is within twice the step. Assumes nothing.
 use native.Mathlib.Omega.{arith}
-use borrow.Author.Rules.{rules}
 use Rattle.memory_plan.proofs.entry.Laws.{one-enough, too_few, by-halves}
 use Rattle.memory_plan.proofs.entry.least_slots.Goals as goal
 

@@ -1,7 +1,6 @@
 -- `least_span` meets its contract. Assumes nothing.
 use mathlib.Core.Path.{◌∙◌}
 use native.Mathlib.Omega.{arith}
-use borrow.Author.Rules.{rules}
 use Rattle.memory_plan.proofs.entry.Laws.{words-untimed, words_long, words-no-path, words-timed}
 use Rattle.memory_plan.proofs.entry.least_span.Goals as goal
 

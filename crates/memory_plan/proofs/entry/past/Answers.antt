@@ -2,7 +2,6 @@
 use Prim.Native.Nat.{◌+◌}
 use native.Mathlib.Nat.{mul-le-mul_right}
 use native.Mathlib.Omega.{arith}
-use borrow.Author.Rules.{rules}
 use Rattle.memory_plan.proofs.entry.Laws.{halved-on, halved-stay}
 use Rattle.memory_plan.proofs.entry.past.Goals as goal
 

@@ -1,6 +1,5 @@
 -- `permits` meets its contract. Assumes nothing.
 use mathlib.Core.Path.{sym, ◌∙◌}
-use borrow.Author.Rules.{rules}
 use Rattle.memory_plan.proofs.entry.permits.Goals as goal
 
 pub returns-then-has : goal.returns-then-has

@@ -1,6 +1,5 @@
 -- `span_at` meets its contract. Assumes nothing.
 use native.Mathlib.Omega.{arith}
-use borrow.Author.Rules.{rules}
 use Rattle.memory_plan.proofs.entry.Laws.{span-past-rows, span-past-slots, span-told}
 use Rattle.memory_plan.proofs.entry.span_at.Goals as goal
 

@@ -1,6 +1,5 @@
 -- `targets_at` meets its contract. Assumes nothing.
 use native.Mathlib.Omega.{arith}
-use borrow.Author.Rules.{rules}
 use Rattle.memory_plan.proofs.entry.Laws.{aim-past-rows, aim-past-slots, aim-told}
 use Rattle.memory_plan.proofs.entry.targets_at.Goals as goal
 

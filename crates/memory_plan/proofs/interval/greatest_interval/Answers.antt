@@ -1,5 +1,4 @@
 -- `greatest_interval` meets its contract. Assumes nothing.
-use borrow.Author.Rules.{rules}
 use Rattle.memory_plan.proofs.interval.Laws.{greatest-told}
 use Rattle.memory_plan.proofs.interval.greatest_interval.Goals as goal
 

@@ -1,5 +1,4 @@
 -- `is_loaded` meets its contract: the greatest interval of a plan is not 0. Assumes nothing.
-use borrow.Author.Rules.{rules}
 use borrow.Author.Tests.{eqb-true, eqb-false, not-true, not-false}
 use Rattle.rules_plan.specs.Plan.{nth}
 use Rattle.memory_plan.proofs.interval.Laws.{loaded-told}

@@ -1,5 +1,4 @@
 -- `least_interval` meets its contract. Assumes nothing.
-use borrow.Author.Rules.{rules}
 use Rattle.memory_plan.proofs.interval.Laws.{least-told}
 use Rattle.memory_plan.proofs.interval.least_interval.Goals as goal
 

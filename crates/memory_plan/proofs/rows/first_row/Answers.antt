@@ -1,10 +1,8 @@
 -- `items::rows::first_row` meets its contract: the rows passed have other initiators, so the rest decides.
 -- Assumes nothing.
-use mathlib.Core.Path.{◌≡◌, refl, sym, ◌∙◌}
-use Prim.Native.Nat.{ℕ, ◌-◌}
+use mathlib.Core.Path.{refl, sym, ◌∙◌}
 use borrow.Author.Rules.{rules}
 use borrow.Author.Tests.{eq-eqb, ne_eqb}
-use Rattle.lists.specs.Numbers.{first_from}
 use Rattle.lists.specs.laws.Scan.{first-here, first_next, first-end}
 use Rattle.memory_plan.specs.laws.Among.{is_row}
 use Rattle.memory_plan.proofs.rows.first_row.Goals as goal

@@ -3,7 +3,6 @@
 use mathlib.Core.Path.{◌∙◌}
 use Prim.Native.Nat.{min}
 use native.Mathlib.Omega.{arith}
-use borrow.Author.Rules.{rules}
 use Rattle.memory_plan.specs.laws.Among.{is_row, first-behind, first-among}
 use Rattle.memory_plan.proofs.rows.row_among.Goals as goal
 

@@ -1,6 +1,5 @@
 -- `lasting` meets its contract. Assumes nothing.
 use native.Mathlib.Omega.{arith}
-use borrow.Author.Rules.{rules}
 use Rattle.memory_plan.proofs.turns.Laws.{none-long, both_long}
 use Rattle.memory_plan.proofs.turns.lasting.Goals as goal
 

@@ -1,6 +1,5 @@
 -- `finish_row` meets its contract. Assumes nothing.
 use Rattle.memory_run.proofs.row.Rows.{finished}
-use borrow.Author.Rules.{rules}
 use Rattle.memory_run.proofs.row.finish_row.Goals as goal
 
 pub returns : goal.returns

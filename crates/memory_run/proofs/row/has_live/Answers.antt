@@ -1,6 +1,5 @@
 -- `has_live` meets its contract: a live transaction's time is never 0. Assumes nothing.
 use Rattle.memory_run.specs.laws.RowWords.{live-is}
-use borrow.Author.Rules.{rules}
 use Rattle.memory_run.proofs.row.has_live.Goals as goal
 
 pub returns : goal.returns

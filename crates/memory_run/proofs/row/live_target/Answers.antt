@@ -1,7 +1,6 @@
 -- `live_target` meets its contract: the word comes apart again. Assumes nothing.
 use mathlib.Core.Path.{◌∙◌}
 use Rattle.memory_run.specs.laws.RowWords.{live-parts}
-use borrow.Author.Rules.{rules}
 use Rattle.memory_run.proofs.row.live_target.Goals as goal
 
 pub returns : goal.returns

@@ -1,6 +1,5 @@
 -- `live_word` meets its contract. Assumes nothing.
 use Rattle.memory_run.specs.laws.RowWords.{live-word-at}
-use borrow.Author.Rules.{rules}
 use Rattle.memory_run.proofs.row.live_word.Goals as goal
 
 pub returns : goal.returns

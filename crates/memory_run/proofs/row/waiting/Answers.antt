@@ -1,7 +1,6 @@
 -- `waiting` meets its contract. Assumes nothing.
 use mathlib.Core.Path.{refl}
 use Rattle.memory_run.specs.laws.RowWords.{count_at}
-use borrow.Author.Rules.{rules}
 use Rattle.memory_run.proofs.row.waiting.Goals as goal
 
 pub returns : goal.returns

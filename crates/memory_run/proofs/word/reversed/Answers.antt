@@ -3,7 +3,6 @@ use mathlib.Core.Path.{◌≡◌}
 use Prim.Native.Nat.{ℕ, ◌+◌, ◌*◌, ◌/◌, ◌%◌}
 use native.Mathlib.Omega.{arith}
 use Rattle.memory_run.specs.Run.{swapped}
-use borrow.Author.Rules.{rules}
 use Rattle.memory_run.proofs.word.reversed.Goals as goal
 
 -- the halves, by the bytes of the whole

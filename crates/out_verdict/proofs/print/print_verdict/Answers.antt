@@ -4,7 +4,6 @@ use mathlib.Core.List.{List, flat_map, ◌++◌}
 use Prim.Native.Nat.{ℕ, ◌≤◌}
 use native.Mathlib.Omega.{arith}
 use lib.ListN.{length, drop}
-use borrow.Author.Rules.{rules}
 use Rattle.lists.specs.Stores.{Put}
 use Rattle.lists.specs.laws.Stores.{put_front}
 use Rattle.rules_plan.specs.declared.Verdict.{Verdict}

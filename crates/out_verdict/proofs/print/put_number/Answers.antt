@@ -2,7 +2,6 @@
 use mathlib.Core.Path.{◌∙◌}
 use native.Mathlib.Omega.{arith}
 use lib.ListN.{length-set}
-use borrow.Author.Rules.{rules}
 use Rattle.lists.specs.laws.Stores.{put_one, put_then}
 use Rattle.rules_plan.specs.Print.{spaced}
 use Rattle.bytes_put.specs.laws.Decimal.{decimal-length}

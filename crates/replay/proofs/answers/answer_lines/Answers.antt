@@ -1,8 +1,6 @@
 -- `replay::answers::answer_lines` meets its contract. The loop's invariant: the lines before the place start are answered, and end is where the next one ends. Assumes nothing.
-use Rattle.std.proofs.Common.{◌≡◌, ◌-◌, ◌≤◌, length, arith, rules}
-use Rattle.box_calls.specs.Calls.{memory}
-use Rattle.replay.specs.Gather.{stand, Lines, none}
-use Rattle.replay.specs.Lines.{line_end}
+use Rattle.std.proofs.Common.{arith, rules}
+use Rattle.replay.specs.Gather.{none}
 use Rattle.replay.proofs.lines.Scans.{end-behind, end-within}
 use Rattle.replay.proofs.answers.Gathered.{lines_more}
 use Rattle.replay.proofs.answers.answer_lines.Goals as goal

@@ -1,5 +1,4 @@
 -- `replay::answers::end_line` meets its contract. Assumes nothing.
-use Rattle.std.proofs.Common.{rules}
 use Rattle.replay.proofs.answers.Gathered.{roomy-room, ends-passed, ends-answered}
 use Rattle.replay.proofs.answers.end_line.Goals as goal
 

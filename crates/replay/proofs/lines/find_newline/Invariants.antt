@@ -1,7 +1,6 @@
 -- `replay::lines::find_newline` meets its contract. The loop's invariant: the line ends where one would that began at place i. Assumes nothing.
-use Rattle.std.proofs.Common.{◌≡◌, ◌-◌, length, sym, refl, ◌∙◌, rules, eq-eqb, ne_eqb}
-use Rattle.lists.specs.laws.Scan.{first-here, first_next, first-end}
-use Rattle.replay.specs.Lines.{is_newline, line_end}
+use Rattle.std.proofs.Common.{◌≡◌, ◌-◌, length}
+use Rattle.replay.specs.Lines.{line_end}
 use Rattle.replay.proofs.lines.find_newline.Given as goal
 
 abbrev pub invariant-loop-i : goal.invariant-loop-i

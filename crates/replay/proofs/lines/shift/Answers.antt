@@ -1,6 +1,6 @@
 -- `replay::lines::shift` meets its contract. The loop's invariant: i bytes are moved, and those from place i on are as they were. Assumes nothing.
-use Rattle.std.proofs.Common.{◌-◌, refl, rules}
-use Rattle.replay.proofs.lines.Shifts.{Shifted, shift-begin, shift-next, shift-done}
+use Rattle.std.proofs.Common.{refl, rules}
+use Rattle.replay.proofs.lines.Shifts.{shift-begin, shift-next, shift-done}
 use Rattle.replay.proofs.lines.shift.Goals as goal
 
 pub loop-i-init : goal.loop-i-init

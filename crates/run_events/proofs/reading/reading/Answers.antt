@@ -1,8 +1,6 @@
 -- `reading` meets its contract. Assumes nothing.
 use mathlib.Core.Path.{sym, ◌∙◌}
-use borrow.Author.Tests.{not-true, not-false}
 use Rattle.run_events.proofs.reading.Readings.{no-plan, overdue, in-time}
-use borrow.Author.Rules.{rules}
 use Rattle.run_events.proofs.reading.reading.Goals as goal
 
 pub returns-then-not-is_loaded : goal.returns-then-not-is_loaded

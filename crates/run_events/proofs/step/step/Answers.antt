@@ -1,6 +1,5 @@
 -- `step` meets its contract: the event is one of the four. Assumes nothing.
 use Rattle.run_events.specs.laws.Events.{by-time-code, by-request, by-reply, by-reading}
-use borrow.Author.Rules.{rules}
 use Rattle.run_events.proofs.step.step.Goals as goal
 
 pub returns-in-TimeCode : goal.returns-in-TimeCode

@@ -1,6 +1,5 @@
 -- `events::values::values_of` meets its contract. Assumes nothing.
 use mathlib.Core.Path.{sym, ap}
-use borrow.Author.Rules.{rules}
 use Rattle.rules_box.specs.declared.Answer.{Answer}
 use Rattle.rules_box.specs.Answer.{values}
 use Rattle.run_events.specs.Values.{listed}

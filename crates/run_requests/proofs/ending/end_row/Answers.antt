@@ -1,8 +1,6 @@
 -- `end_row` meets its contract. Assumes nothing.
 use mathlib.Core.Path.{sym, ◌∙◌}
-use borrow.Author.Tests.{not-true, not-false}
 use Rattle.run_requests.proofs.ending.Finishes.{nothing-live, another-live, finishes}
-use borrow.Author.Rules.{rules}
 use Rattle.run_requests.proofs.ending.end_row.Goals as goal
 
 pub returns-then-not-has_live : goal.returns-then-not-has_live

@@ -1,7 +1,6 @@
 -- `no_row` meets its contract. Assumes nothing.
 use mathlib.Core.Path.{ap}
 use Rattle.rules_box.specs.declared.Answer.TheVariants.{Refused}
-use borrow.Author.Rules.{rules}
 use Rattle.run_requests.proofs.no_row.no_row.Goals as goal
 
 pub returns : goal.returns

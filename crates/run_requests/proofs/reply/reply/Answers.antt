@@ -2,7 +2,6 @@
 use Prim.Native.Nat.{◌+◌, ◌-◌, ◌*◌}
 use native.Mathlib.Omega.{arith}
 use Rattle.run_requests.proofs.reply.Ends.{stranger, ends}
-use borrow.Author.Rules.{rules}
 use Rattle.memory_plan.specs.laws.RowFor.{row_told, none_told, none-behind}
 use Rattle.run_requests.proofs.reply.reply.Goals as goal
 

@@ -1,7 +1,6 @@
 -- `late_row` meets its contract. Assumes nothing.
 use native.Mathlib.Omega.{arith}
 use Rattle.run_timecodes.proofs.late.Laws.{late-puts, late-not}
-use borrow.Author.Rules.{rules}
 use Rattle.run_timecodes.proofs.late.late_row.Goals as goal
 
 pub returns-then-late : goal.returns-then-late

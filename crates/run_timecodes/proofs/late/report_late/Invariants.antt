@@ -1,15 +1,10 @@
 -- `report_late` meets its contract. The loop's invariant: the initiators of the rows before this one are done, with at most a record for each. Assumes nothing.
-use mathlib.Core.Path.{◌≡◌, refl}
+use mathlib.Core.Path.{◌≡◌}
 use Prim.Native.Nat.{◌+◌, ◌*◌, ◌-◌, ◌≤◌}
-use native.Mathlib.Omega.{arith}
 use lib.ListN.{length}
 use Rattle.rules_box.specs.Refuse.{record_size}
-use Rattle.rules_box.specs.Turn.{aged}
-use Rattle.rules_box.specs.Records.{late_record}
-use Rattle.run_records.specs.laws.Sweeps.{swept-begin}
 use Rattle.memory_run.specs.Row.{IsRun}
-use Rattle.run_timecodes.proofs.late.Sweep.{LateSwept, late-next, late-done}
-use borrow.Author.Rules.{rules}
+use Rattle.run_timecodes.proofs.late.Sweep.{LateSwept}
 use Rattle.run_timecodes.proofs.late.report_late.Given as goal
 
 abbrev pub invariant-loop-row : goal.invariant-loop-row

@@ -1,7 +1,6 @@
 -- `refuse` meets its contract. Assumes nothing.
 use mathlib.Core.Path.{sym, ◌∙◌}
 use native.Mathlib.Omega.{arith}
-use borrow.Author.Tests.{not-true, not-false}
 use Rattle.run_timecodes.proofs.sequence.Refusals.{refuses-20, refuses-21, refuses-29, refuses-none}
 use borrow.Author.Rules.{rules}
 use Rattle.run_timecodes.proofs.sequence.refuse.Goals as goal

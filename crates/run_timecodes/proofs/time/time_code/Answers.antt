@@ -2,7 +2,6 @@
 use mathlib.Core.Path.{sym, ◌∙◌}
 use native.Mathlib.Omega.{arith}
 use Rattle.run_timecodes.proofs.time.Leaves.{handed, refused, accepted}
-use borrow.Author.Rules.{rules}
 use Rattle.run_timecodes.proofs.time.time_code.Goals as goal
 
 pub returns-then-number-ne0 : goal.returns-then-number-ne0

@@ -1,12 +1,7 @@
 -- `visit_all` meets its contract. The loop's invariant: the initiators of the rows before this one are done, with at most a record for each. Assumes nothing.
-use mathlib.Core.Path.{refl}
-use mathlib.Core.Logic.{⊎_elim}
-use Prim.Native.Nat.{◌+◌, ◌*◌, ◌≤◌, ◌-◌}
-use native.Mathlib.Omega.{arith}
-use Rattle.run_records.specs.laws.Sweeps.{swept-begin}
+use Prim.Native.Nat.{◌≤◌, ◌-◌}
 use Rattle.memory_run.specs.Row.{IsRun}
-use Rattle.run_timecodes.proofs.visits.Sweep.{new_side, new_records, VisitStands, visit-one, visit-no-one, visit-done}
-use borrow.Author.Rules.{rules}
+use Rattle.run_timecodes.proofs.visits.Sweep.{VisitStands}
 use Rattle.run_timecodes.proofs.visits.visit_all.Given as goal
 
 abbrev pub invariant-loop-row : goal.invariant-loop-row

@@ -2,7 +2,6 @@
 use mathlib.Core.Path.{sym, ◌∙◌}
 use native.Mathlib.Omega.{arith}
 use Rattle.run_timecodes.proofs.visits.Laws.{visit-live, visit-start, visit-nothing}
-use borrow.Author.Rules.{rules}
 use Rattle.run_timecodes.proofs.visits.visit_row.Goals as goal
 
 pub returns-then-has_live : goal.returns-then-has_live

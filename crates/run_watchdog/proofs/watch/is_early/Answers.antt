@@ -1,5 +1,5 @@
 -- `is_early` meets its contract. Assumes nothing.
-use Rattle.std.proofs.Common.{arith, rules}
+use Rattle.std.proofs.Common.{arith}
 use Rattle.run_watchdog.proofs.watch.Laws.{early-unseen, early-seen}
 use Rattle.run_watchdog.proofs.watch.is_early.Goals as goal
 

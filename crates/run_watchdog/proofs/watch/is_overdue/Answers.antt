@@ -1,5 +1,5 @@
 -- `is_overdue` meets its contract. Assumes nothing.
-use Rattle.std.proofs.Common.{arith, rules}
+use Rattle.std.proofs.Common.{arith}
 use Rattle.run_watchdog.proofs.watch.Laws.{overdue-unseen, overdue-reported, overdue-seen}
 use Rattle.run_watchdog.proofs.watch.is_overdue.Goals as goal
 

@@ -1,7 +1,6 @@
 -- `replies::texts::put_copied` meets its contract: the plan was written or not. Assumes nothing.
 use native.Mathlib.Omega.{arith}
 use lib.ListN.{length-take}
-use borrow.Author.Rules.{rules}
 use Rattle.script_answers.proofs.texts.Copies.{refused-line, written-line}
 use Rattle.script_answers.proofs.texts.put_copied.Goals as goal
 

@@ -1,7 +1,6 @@
 -- `replies::texts::put_event` meets its contract: the event is one of the four. Assumes nothing.
 use native.Mathlib.Omega.{arith}
 use lib.ListN.{length-take}
-use borrow.Author.Rules.{rules}
 use Rattle.script_answers.proofs.texts.Events.{time-code-line, request-line, reply-line, reading-line}
 use Rattle.script_answers.proofs.texts.put_event.Goals as goal
 

@@ -1,5 +1,4 @@
 -- `replies::texts::put_flag` meets its contract. Assumes nothing.
-use borrow.Author.Rules.{rules}
 use Rattle.rules_plan.specs.Print.{text}
 use Rattle.script_answers.specs.Texts.{flag_line}
 use Rattle.script_answers.proofs.texts.put_flag.Goals as goal

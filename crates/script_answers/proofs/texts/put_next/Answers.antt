@@ -1,5 +1,4 @@
 -- `put_next` meets its contract: there is a turn or none. Assumes nothing.
-use borrow.Author.Rules.{rules}
 use Rattle.script_answers.proofs.texts.Nexts.{no-turn-line, turn-line}
 use Rattle.script_answers.proofs.texts.put_next.Goals as goal
 

@@ -1,5 +1,4 @@
 -- `put_sheet` meets its contract: there is a sheet or none. Assumes nothing.
-use borrow.Author.Rules.{rules}
 use Rattle.script_answers.proofs.texts.Sheets.{no-sheet-line, terms-line}
 use Rattle.script_answers.proofs.texts.put_sheet.Goals as goal
 

@@ -1,5 +1,4 @@
 -- `replies::texts::put_watchdog` meets its contract. Assumes nothing.
-use borrow.Author.Rules.{rules}
 use Rattle.script_answers.specs.Texts.{watchdog_line}
 use Rattle.script_answers.proofs.texts.put_watchdog.Goals as goal
 

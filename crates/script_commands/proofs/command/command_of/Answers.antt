@@ -1,7 +1,6 @@
 -- `script::command::command_of` meets its contract. Assumes nothing.
 use mathlib.Core.Path.{◌∙◌}
 use native.Mathlib.Omega.{arith}
-use borrow.Author.Rules.{rules}
 use Rattle.script_commands.proofs.command.Names.{empty-line, remark, some-command}
 use Rattle.script_commands.proofs.command.command_of.Goals as goal
 

@@ -1,8 +1,6 @@
 -- `script::command::named` meets its contract. Assumes nothing.
-use mathlib.Core.Path.{refl, sym, ◌∙◌}
+use mathlib.Core.Path.{refl, ◌∙◌}
 use lib.ListN.{take, drop}
-use lib.Seq.{length-take-le}
-use borrow.Author.Rules.{rules}
 use Rattle.rules_plan.specs.Print.{text}
 use Rattle.script_words.specs.Words.{same}
 use Rattle.script_words.specs.Reading.{behind_word}

@@ -2,7 +2,6 @@
 use mathlib.Core.Path.{sym, ◌∙◌}
 use Prim.Native.Nat.{◌+◌}
 use borrow.Author.Rules.{rules}
-use borrow.Author.Tests.{not-true, not-false}
 use Rattle.lists.specs.laws.Parts.{from-to-end}
 use Rattle.script_commands.proofs.command.Made.{bytes-missing, bytes-and-more, no_bytes, some_bytes}
 use Rattle.script_commands.proofs.command.with_bytes.Goals as goal

@@ -1,5 +1,4 @@
 -- `desk::answer::answer` meets its contract: the line is one of the fifteen commands. Assumes nothing.
-use borrow.Author.Rules.{rules}
 use Rattle.rules_plan.specs.Print.{text}
 use Rattle.script_desk.proofs.answer.Replies.{skip, bad, load, clear, time-code, request, reply, reading, out, watchdog, set, sheet, next, blank, holds, load-within, holds-within, records-within, out_within}
 use Rattle.script_desk.proofs.answer.answer.Goals as goal

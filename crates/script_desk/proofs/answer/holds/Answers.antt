@@ -1,6 +1,5 @@
 -- `desk::answer::holds` meets its contract: the bytes decoded are the file that is asked about. Assumes nothing.
 use lib.ListN.{length}
-use borrow.Author.Rules.{rules}
 use Rattle.script_hex.specs.Hex.{decoded}
 use Rattle.script_desk.proofs.answer.Loads.{front-within, front-size, holds-answers}
 use Rattle.script_desk.proofs.answer.holds.Goals as goal

@@ -1,5 +1,4 @@
 -- `desk::answer::over_long` meets its contract. Assumes nothing.
-use borrow.Author.Rules.{rules}
 use Rattle.script_desk.proofs.answer.OverLong.{no_bytes, hash, no-hash}
 use Rattle.script_desk.proofs.answer.over_long.Goals as goal
 

@@ -1,5 +1,4 @@
 -- `desk::answer::step` meets its contract. Assumes nothing.
-use borrow.Author.Rules.{rules}
 use Rattle.script_desk.proofs.answer.Told.{step-answers}
 use Rattle.script_desk.proofs.answer.step.Goals as goal
 

@@ -1,6 +1,5 @@
 -- `desk::answer::with_records` meets its contract: the front of a buffer that is all 0 is lent. Assumes nothing.
 use native.Mathlib.Omega.{arith}
-use borrow.Author.Rules.{rules}
 use Rattle.script_desk.proofs.answer.Rooms.{lent-size}
 use Rattle.script_desk.proofs.answer.Told.{lent-zeros}
 use Rattle.script_desk.proofs.answer.with_records.Goals as goal

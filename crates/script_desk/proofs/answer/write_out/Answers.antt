@@ -1,5 +1,4 @@
 -- `desk::answer::write_out` meets its contract: the front of a buffer that is all 0 is lent and handed back. Assumes nothing.
-use borrow.Author.Rules.{rules}
 use Rattle.script_desk.proofs.answer.Rooms.{lent-size, back-within, back-size, back-most}
 use Rattle.script_desk.proofs.answer.Told.{out-answers}
 use Rattle.script_desk.proofs.answer.write_out.Goals as goal

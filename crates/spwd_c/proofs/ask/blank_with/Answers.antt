@@ -1,6 +1,5 @@
 -- `spwd_c::ask::blank_with` meets its contract. Assumes nothing.
 use Rattle.spwd_c.proofs.Asks.{is-blank}
-use borrow.Author.Rules.{rules}
 use Rattle.spwd_c.proofs.ask.blank_with.Goals as goal
 
 pub returns : goal.returns

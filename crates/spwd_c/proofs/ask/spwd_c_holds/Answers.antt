@@ -1,6 +1,5 @@
 -- `spwd_c::ask::spwd_c_holds` meets its contract. Assumes nothing.
 use Rattle.spwd_c.proofs.Asks.{holds-it}
-use borrow.Author.Rules.{rules}
 use Rattle.spwd_c.proofs.ask.spwd_c_holds.Goals as goal
 
 pub returns : goal.returns

@@ -1,6 +1,5 @@
 -- `spwd_c::call::load_with` meets its contract. Assumes nothing.
 use Rattle.spwd_c.proofs.Calls.{loads}
-use borrow.Author.Rules.{rules}
 use Rattle.spwd_c.proofs.call.load_with.Goals as goal
 
 pub returns : goal.returns

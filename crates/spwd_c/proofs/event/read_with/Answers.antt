@@ -1,7 +1,6 @@
 -- `spwd_c::event::read_with` meets its contract. Assumes nothing.
 use Rattle.spwd_c.proofs.Events.{readings}
 use mathlib.Core.Path.{refl}
-use borrow.Author.Rules.{rules}
 use Rattle.spwd_c.proofs.event.read_with.Goals as goal
 
 pub returns : goal.returns

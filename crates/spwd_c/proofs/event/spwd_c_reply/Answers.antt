@@ -1,6 +1,5 @@
 -- `spwd_c::event::spwd_c_reply` meets its contract. Assumes nothing.
 use Rattle.spwd_c.proofs.Events.{replies}
-use borrow.Author.Rules.{rules}
 use Rattle.spwd_c.proofs.event.spwd_c_reply.Goals as goal
 
 pub returns : goal.returns

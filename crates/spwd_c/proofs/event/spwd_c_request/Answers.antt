@@ -1,6 +1,5 @@
 -- `spwd_c::event::spwd_c_request` meets its contract. Assumes nothing.
 use Rattle.spwd_c.proofs.Events.{requests}
-use borrow.Author.Rules.{rules}
 use Rattle.spwd_c.proofs.event.spwd_c_request.Goals as goal
 
 pub returns : goal.returns

@@ -1,6 +1,5 @@
 -- `spwd_c::event::time_with` meets its contract. Assumes nothing.
 use Rattle.spwd_c.proofs.Events.{time-codes}
-use borrow.Author.Rules.{rules}
 use Rattle.spwd_c.proofs.event.time_with.Goals as goal
 
 pub returns : goal.returns

@@ -1,5 +1,4 @@
 -- `spwd_c::next::spwd_c_next` meets its contract. Assumes nothing.
-use borrow.Author.Rules.{rules}
 use Rattle.spwd_c.proofs.next.spwd_c_next.Goals as goal
 
 pub returns : goal.returns
