@@ -1,9 +1,8 @@
 -- What the question for the next turn answers of the plan in memory.
 use Rattle.std.specs.Prelude.{◌≡◌, List, ℕ}
 use Rattle.std.proofs.Math.Option.{Option}
-use Rattle.rules_plan.specs.declared.Next.{Next}
 use Rattle.rules_plan.specs.Plan.{Plan}
-use Rattle.rules_plan.specs.Next.{next_answer}
+use Rattle.rules_plan.specs.Next.{Next, next_answer}
 use Rattle.memory_plan.specs.View.{Shown}
 
 -- the contract of `next`: of every plan that memory holds, and of none, the answer of the rules. The spans of entries are not lent.

@@ -2,15 +2,15 @@
 ghost use Rattle.std.specs.Prelude.{◌≡◌, ◌≢◌, ℕ, ◌+◌, ◌%◌, ◌<◌};
 ghost use Rattle.lists.specs.Numbers.{first_from};
 ghost use Rattle.bitsets.specs.Set.{member};
+ghost use Rattle.rules_plan.specs.Next.{next_told};
 ghost use Rattle.ask_next.specs.Asked.{TellsNext};
 
-use crate::refused::{no_row, no_turn};
+use crate::refused::{no_turn, own_row};
 use bitsets::{is_empty, least};
 use memory_plan::entry::least_span;
 use memory_plan::layout::*;
-use memory_plan::rows::first_row;
 use memory_plan::turns::{aimed_at, lasting};
-use rules_plan::Next;
+use rules_plan::Refusal;
 
 // How many slots on from a slot the next of a set is, "1 is the slot after a given one, 64 that slot again": the least of those behind the slot,
 // and where there is none, the least of all, once round.
@@ -33,37 +33,22 @@ pub fn next(
     target: u8,
     length: u16,
     slot: u8,
-) -> Next
-    ensures { TellsNext rows.now aims.now numbers.now initiator target length slot result }
+) -> Result<u8, Refusal>
+    ensures { TellsNext rows.now aims.now numbers.now initiator target length slot (next_told result) }
 {
-    let row = first_row(rows, initiator);
-    if ROWS <= row {
-        return Next::NoTurn {
-            number: no_row(numbers),
-        };
-    }
-    if numbers[INITIATORS] <= row as u32 {
-        return Next::NoTurn {
-            number: no_row(numbers),
-        };
-    }
+    let row = own_row(rows, numbers, initiator)?;
     // A target that no entry has is told before its least span is worked out.
     let aimed = aimed_at(aims, row, target);
     if is_empty(aimed) {
-        return Next::NoTurn {
-            number: no_turn(length),
-        };
+        return Err(no_turn(length));
     }
     let need = least_span(numbers, row, target, length);
     let set = lasting(aims, row, aimed, need);
     if is_empty(set) {
-        return Next::NoTurn {
-            number: no_turn(length),
-        };
+        return Err(no_turn(length));
     }
     if 63 < slot {
-        return Next::NoTurn { number: 33 };
+        return Err(Refusal::SlotOverMost);
     }
-    let count = slots_to(set, slot);
-    Next::Turn { count }
+    Ok(slots_to(set, slot))
 }

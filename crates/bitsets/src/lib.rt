@@ -1,5 +1,6 @@
 // A set of numbers from 0 to 63, kept as a u64: k is in the set where the bit k is 1.
 // Each function takes every set and every number; a number of 64 or more is in no set.
+// Kept: functions over u64, and no type of its own for a set: the C interface lends the sets as words.
 #![tactic(auto)]
 
 ghost use Rattle.std.specs.Prelude.{◌≡◌, not, ◌&&◌, ◌||◌, ℕ, eqb};
@@ -9,7 +10,7 @@ ghost use Rattle.bitsets.specs.Set.{member, alone, added, common, listed, disjoi
 pub fn has(s: u64, t: u8) -> bool
     ensures { result ≡ member t s }
 {
-    if t < 64 { (s >> t) % 2 == 1 } else { false }
+    t < 64 && (s >> t) % 2 == 1
 }
 
 // The set of t alone, and the empty set where t is 64 or more.
@@ -93,11 +94,9 @@ pub fn size(s: u64) -> u32
 pub fn set_of(s: &[u8]) -> u64
     ensures { (k : ℕ) → member k result ≡ listed s.now k }
 {
-    let mut r: u64 = 0;
-    let mut i = 0;
-    while i < s.len() {
-        r = add(r, s[i]);
-        i += 1;
+    let mut set = 0;
+    for t in s {
+        set = add(set, *t);
     }
-    r
+    set
 }

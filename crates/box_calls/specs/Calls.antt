@@ -5,7 +5,7 @@ use Rattle.rules_plan.specs.Judge.{judge}
 use Rattle.rules_plan.specs.Good.{Bytes}
 use Rattle.memory_plan.specs.Lent.{Array, SharedArray, at_entry, at_exit, at_now}
 use Rattle.rules_box.specs.declared.Event.{Event}
-use Rattle.rules_box.specs.declared.Answer.{Answer}
+use Rattle.rules_box.specs.Answer.{Answer}
 use Rattle.rules_box.specs.declared.Watchdog.{Watchdog}
 use Rattle.rules_box.specs.State.{Box, cleared, loaded, watchdog_cleared, watchdog_loaded}
 use Rattle.rules_box.specs.Step.{step}

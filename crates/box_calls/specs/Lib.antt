@@ -1,3 +1,4 @@
 pub mod Box
 pub mod Calls
+pub mod Owned
 pub mod laws

@@ -8,14 +8,7 @@ use memory_run::layout::*;
 use rules_box::Watchdog;
 use rules_plan::Verdict;
 
-// The verdict on a file, and the five numbers after the load.
-#[derive(Drop)]
-pub struct Loaded {
-    pub verdict: Verdict,
-    pub watchdog: Watchdog,
-}
-
-// The verdict on a file: 0, and the box holds its plan; or the first fault, and the box is that of a clear. The five numbers with the answer.
+// The verdict on a file: 0, and the box holds its plan; or the first fault, and the box is that of a clear.
 pub fn load(
     file: &[u8],
     sets: &mut Sets,
@@ -28,21 +21,16 @@ pub fn load(
     numbers: &mut Numbers,
     run: &mut Run,
     last: &mut Last,
-) -> Loaded
-    ensures { LoadLeaves file.now result.verdict (left_in sets ends rows reach paths spans aims numbers run last) result.watchdog }
+    watchdog: &mut Watchdog,
+) -> Verdict
+    ensures { LoadLeaves file.now result (left_in sets ends rows reach paths spans aims numbers run last) watchdog.new }
 {
     let verdict = load_plan::load::load(file, sets, ends, rows, reach, paths, spans, aims, numbers);
     clear_run(run, last);
-    let least = least_interval(numbers);
-    let greatest = greatest_interval(numbers);
-    Loaded {
-        verdict,
-        watchdog: Watchdog {
-            last: 0,
-            seen: 0,
-            reported: 0,
-            least,
-            greatest,
-        },
-    }
+    *watchdog = Watchdog {
+        least: least_interval(numbers),
+        greatest: greatest_interval(numbers),
+        ..Watchdog::default()
+    };
+    verdict
 }

@@ -32,28 +32,14 @@ fn same_plan(
         × (reach.now ≡ other_reach.now) × (paths.now ≡ other_paths.now) × (spans.now ≡ other_spans.now)
         × (aims.now ≡ other_aims.now) × (numbers.now ≡ other_numbers.now)) }
 {
-    if !lists::words::same(sets, other_sets) {
-        return false;
-    }
-    if !lists::bytes::same(ends, other_ends) {
-        return false;
-    }
-    if !lists::bytes::same(rows, other_rows) {
-        return false;
-    }
-    if !lists::words::same(reach, other_reach) {
-        return false;
-    }
-    if !lists::bytes::same(paths, other_paths) {
-        return false;
-    }
-    if !lists::bytes::same(spans, other_spans) {
-        return false;
-    }
-    if !lists::words::same(aims, other_aims) {
-        return false;
-    }
-    lists::numbers::same(numbers, other_numbers)
+    sets == other_sets
+        && ends == other_ends
+        && rows == other_rows
+        && reach == other_reach
+        && paths == other_paths
+        && spans == other_spans
+        && aims == other_aims
+        && numbers == other_numbers
 }
 
 // True exactly where the file is accepted and memory is that of its plan, every number of it, whatever memory is lent. The memory beside the
@@ -91,25 +77,23 @@ pub fn holds(
         other_aims,
         other_numbers,
     );
-    if !is_loaded(other_numbers) {
-        return false;
-    }
-    same_plan(
-        sets,
-        ends,
-        rows,
-        reach,
-        paths,
-        spans,
-        aims,
-        numbers,
-        other_sets,
-        other_ends,
-        other_rows,
-        other_reach,
-        other_paths,
-        other_spans,
-        other_aims,
-        other_numbers,
-    )
+    is_loaded(other_numbers)
+        && same_plan(
+            sets,
+            ends,
+            rows,
+            reach,
+            paths,
+            spans,
+            aims,
+            numbers,
+            other_sets,
+            other_ends,
+            other_rows,
+            other_reach,
+            other_paths,
+            other_spans,
+            other_aims,
+            other_numbers,
+        )
 }

@@ -10,14 +10,12 @@ use lib.ListN.{length, take, drop}
 use lib.Seq.{take_at}
 use borrow.Author.Tests.{eq-eqb}
 use Rattle.rules_plan.specs.declared.Verdict.{Verdict}
-use Rattle.rules_plan.specs.declared.Copied.{Copied}
-use Rattle.rules_plan.specs.declared.Copied.TheVariants.{Written, NotWritten}
 use Rattle.rules_plan.specs.Plan.{Plan}
 use Rattle.rules_plan.specs.Verdict.{number}
 use Rattle.rules_plan.specs.Judge.{counts, judge}
 use Rattle.rules_plan.specs.Canon.{written, plan_of}
 use Rattle.rules_plan.specs.Good.{Good}
-use Rattle.rules_plan.specs.Copy.{copy_rows, copy_refusal, copy_answer, copied}
+use Rattle.rules_plan.specs.Copy.{Copied, Written, NotWritten, copy_rows, copy_refusal, copy_answer, copied}
 use Rattle.rules_plan.specs.Promises.{AcceptedIsSound, ComesBack, WrittenOutComesBack}
 use Rattle.rules_plan.specs.laws.Reads.{judge-back, good-accepted}
 use Rattle.rules_plan.specs.laws.Copies.{no_room, answers-size, puts-bytes}

@@ -14,7 +14,7 @@ use Rattle.lists.specs.laws.At.{read_at, at-within}
 use Rattle.rules_plan.specs.Plan.{nth}
 use Rattle.rules_plan.specs.Promises.{AcceptedIsSound}
 use Rattle.rules_box.specs.declared.Event.{Event}
-use Rattle.rules_box.specs.declared.Answer.{Answer}
+use Rattle.rules_box.specs.Answer.{Answer}
 use Rattle.rules_box.specs.State.{Box, Live}
 use Rattle.rules_box.specs.Records.{Record, record_bytes}
 use Rattle.rules_box.specs.Step.{Outcome, step}

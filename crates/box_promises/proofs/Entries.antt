@@ -21,7 +21,7 @@ use Rattle.memory_plan.specs.Spans.{fits_in_words}
 use Rattle.memory_plan.specs.laws.InRows.{span-cell, aim-cell}
 use Rattle.memory_plan.specs.laws.Entries.{entry-told}
 use Rattle.rules_box.specs.declared.Event.{Event}
-use Rattle.rules_box.specs.declared.Answer.{Answer}
+use Rattle.rules_box.specs.Answer.{Answer}
 use Rattle.rules_box.specs.State.{Box, the_plan}
 use Rattle.rules_box.specs.Turn.{value_of}
 use Rattle.rules_box.specs.Records.{Record, record_bytes}

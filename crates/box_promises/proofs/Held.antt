@@ -19,7 +19,7 @@ use Rattle.memory_plan.specs.Memory.{sets_of, ends_of, rows_of, reach_of, paths_
 use Rattle.memory_plan.specs.laws.BlankMemory.{good-greatest}
 use Rattle.rules_box.specs.declared.Event.{Event}
 use Rattle.rules_box.specs.declared.Event.TheVariants.{TimeCode, Request, Reply, Reading}
-use Rattle.rules_box.specs.declared.Answer.{Answer}
+use Rattle.rules_box.specs.Answer.{Answer}
 use Rattle.rules_box.specs.declared.Watchdog.{Watchdog}
 use Rattle.rules_box.specs.State.{Box, cleared, holding, loaded, is_accepted, the_plan}
 use Rattle.rules_box.specs.Step.{step, accepts, Outcome, with_side, ticked}

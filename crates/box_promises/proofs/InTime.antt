@@ -21,8 +21,7 @@ use Rattle.memory_plan.specs.View.{owner, row_for}
 use Rattle.memory_plan.specs.laws.Rows.{row-for-place}
 use Rattle.rules_box.specs.declared.Event.{Event}
 use Rattle.rules_box.specs.declared.Event.TheVariants.{TimeCode, Request, Reply, Reading}
-use Rattle.rules_box.specs.declared.Answer.TheVariants.{Joined}
-use Rattle.rules_box.specs.Answer.{values}
+use Rattle.rules_box.specs.Answer.{Joined, values}
 use Rattle.rules_box.specs.State as state
 use Rattle.rules_box.specs.State.{Box, Side, the_plan}
 use Rattle.rules_box.specs.Refuse.{refusal, refusals}

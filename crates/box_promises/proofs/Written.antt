@@ -10,9 +10,8 @@ use Rattle.lists.specs.laws.Even.{flat-row}
 use Rattle.lists.specs.laws.At.{member-at, at_some}
 use Rattle.rules_box.specs.declared.Event.{Event}
 use Rattle.rules_box.specs.declared.Event.TheVariants.{TimeCode, Request, Reply, Reading}
-use Rattle.rules_box.specs.declared.Answer.{Answer}
+use Rattle.rules_box.specs.Answer.{Answer, values}
 use Rattle.rules_box.specs.declared.Watchdog.{Watchdog}
-use Rattle.rules_box.specs.Answer.{values}
 use Rattle.rules_box.specs.State as state
 use Rattle.rules_box.specs.State.{Box, Live}
 use Rattle.rules_box.specs.Records.{Record, record_bytes, recorded, full}

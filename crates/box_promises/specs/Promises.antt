@@ -5,23 +5,18 @@ use Rattle.lists.specs.Search.{is_in}
 use Rattle.lists.specs.Place.{at_place, without}
 use Rattle.bitsets.specs.Set.{member}
 use Rattle.rules_plan.specs.declared.Verdict.{Verdict}
-use Rattle.rules_plan.specs.declared.Copied.{Copied}
-use Rattle.rules_plan.specs.declared.Copied.TheVariants.{Written}
-use Rattle.rules_plan.specs.declared.Next.{Next}
-use Rattle.rules_plan.specs.declared.Next.TheVariants.{Turn}
 use Rattle.rules_plan.specs.Plan.{nth, two, Entry, Plan}
 use Rattle.rules_plan.specs.Meaning.{initiators, fits_in, entry_at, uses}
-use Rattle.rules_plan.specs.Next.{is_turn, next_answer}
+use Rattle.rules_plan.specs.Next.{Next, Turn, is_turn, next_answer}
 use Rattle.rules_plan.specs.Verdict.{number}
 use Rattle.rules_plan.specs.Judge.{counts, judge}
 use Rattle.rules_plan.specs.Canon.{canonical, written, given, plan_of, SamePlan}
-use Rattle.rules_plan.specs.Copy.{copy_answer, copied}
+use Rattle.rules_plan.specs.Copy.{Copied, Written, copy_answer, copied}
 use Rattle.rules_plan.specs.Good.{Good}
 use Rattle.rules_plan.specs.Words.{Gets}
 use Rattle.rules_box.specs.declared.Event.{Event}
 use Rattle.rules_box.specs.declared.Event.TheVariants.{TimeCode, Request, Reply}
-use Rattle.rules_box.specs.declared.Answer.{Answer}
-use Rattle.rules_box.specs.declared.Answer.TheVariants.{Joined, Ended}
+use Rattle.rules_box.specs.Answer.{Answer, Joined, Ended}
 use Rattle.rules_box.specs.declared.Watchdog.{Watchdog}
 use Rattle.rules_box.specs.State as state
 use Rattle.rules_box.specs.State.{Box, the_plan}

@@ -7,8 +7,7 @@ use Rattle.lists.specs.Numbers.{any_below}
 use Rattle.rules_plan.specs.Plan.{nth}
 use Rattle.rules_box.specs.declared.Event.{Event}
 use Rattle.rules_box.specs.declared.Event.TheVariants.{TimeCode, Request, Reply, Reading}
-use Rattle.rules_box.specs.declared.Answer.{Answer}
-use Rattle.rules_box.specs.Answer.{values}
+use Rattle.rules_box.specs.Answer.{Answer, values}
 use Rattle.rules_box.specs.State as state
 use Rattle.rules_box.specs.State.{Live}
 use Rattle.box_calls.specs.Calls.{Memory, Done}

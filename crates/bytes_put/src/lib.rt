@@ -11,12 +11,9 @@ pub fn put_bytes(out: &mut [u8], at: usize, s: &[u8]) -> usize
     requires { at + length s.now ≤ length out.old }
     ensures { Put out.old at s.now out.new result }
 {
-    let mut i = 0;
-    while i < s.len() {
-        out[at + i] = s[i];
-        i += 1;
-    }
-    at + i
+    let end = at + s.len();
+    out[at..end].copy_from_slice(s);
+    end
 }
 
 // The same where they have room; where they have none, nothing is asked of the answer and of the buffer.
@@ -24,10 +21,7 @@ pub fn put(out: &mut [u8], at: usize, s: &[u8]) -> usize
     ensures { Puts out.old at s.now out.new result }
 {
     let room = out.len();
-    if room < s.len() {
-        return at;
-    }
-    if room - s.len() < at {
+    if room < s.len() || room - s.len() < at {
         return at;
     }
     put_bytes(out, at, s)
@@ -37,7 +31,7 @@ pub fn put(out: &mut [u8], at: usize, s: &[u8]) -> usize
 pub fn put_decimal(out: &mut [u8], at: usize, n: u64) -> usize
     ensures { Puts out.old at (decimal n) out.new result }
 {
-    let digit = [48 + (n % 10) as u8];
+    let digit = [b'0' + (n % 10) as u8];
     if n < 10 {
         return put(out, at, &digit);
     }

@@ -1,12 +1,13 @@
 -- The verdict and the answer of writing out as numbers: document 01's number first, then its place or its size, all else 0.
-use Rattle.std.specs.Prelude.{ℕ, ◌%◌, List, [], ◌∷◌, true, false, eqb}
+use Rattle.std.specs.Prelude.{ℕ, ◌%◌, List, [], ◌∷◌, true, false, eqb, Result, Ok, Err}
 use Rattle.lists.specs.Cells.{padded}
 use Rattle.rules_plan.specs.declared.Verdict.{Verdict}
 use Rattle.rules_plan.specs.declared.Verdict.TheVariants.{Accepted, Faulty, Overrun, Clash}
-use Rattle.rules_plan.specs.declared.Copied.{Copied}
+use Rattle.rules_plan.specs.declared.Refusal.{Refusal}
+use Rattle.rules_plan.specs.Numbers.{refusal_number}
 use Rattle.rules_plan.specs.Plan.{nth}
 use Rattle.rules_plan.specs.Verdict.{number, place}
-use Rattle.rules_plan.specs.Copy.{sized}
+use Rattle.rules_plan.specs.Copy.{Copied, sized}
 
 -- accepted: 0 devices links paths entries; 1 to 12 and 15: number place 0 0 0; 13 initiator slot 0 0; 14 slot smaller greater link
 unfoldable pub verdict_numbers : Verdict → List ℕ
@@ -30,3 +31,8 @@ verdict_of ns =
 -- number, size
 unfoldable pub sized_numbers : Copied → List ℕ
 sized_numbers a = (sized a).number ∷ (sized a).size ∷ []
+
+-- 0 and what is told, or the refusal and 0
+abbrev pub told_numbers : Result ℕ Refusal → List ℕ
+told_numbers (Ok n) = 0 ∷ n ∷ []
+told_numbers (Err refusal) = refusal_number refusal ∷ 0 ∷ []

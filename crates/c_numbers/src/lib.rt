@@ -4,4 +4,5 @@
 pub mod copied;
 pub mod next;
 pub mod sheet;
+pub mod told;
 pub mod verdict;

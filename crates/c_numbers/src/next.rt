@@ -1,15 +1,13 @@
 // The answer to the question for the next turn as two numbers.
 ghost use Rattle.std.specs.Prelude.{◌≡◌};
-ghost use Rattle.rules_plan.specs.Next.{next_numbers};
+ghost use Rattle.rules_plan.specs.Next.{next_numbers, next_told};
 
-use rules_plan::Next;
+use crate::told::told_numbers;
+use rules_plan::Refusal;
 
 // 0 and the count, or the refusal and 0.
-pub fn next_numbers(next: Next) -> [u32; 2]
-    ensures { result ≡ next_numbers next }
+pub fn next_numbers(next: Result<u8, Refusal>) -> [u32; 2]
+    ensures { result ≡ next_numbers (next_told next) }
 {
-    match next {
-        Next::NoTurn { number } => [number as u32, 0],
-        Next::Turn { count } => [0, count as u32],
-    }
+    told_numbers(next.map(u32::from))
 }

@@ -6,29 +6,20 @@ ghost use Rattle.rules_plan.specs.Fields.{is_tag, comes_once, length_allowed};
 pub fn is_tag(tag: u8) -> bool
     ensures { result ≡ is_tag tag }
 {
-    match tag {
-        1..=7 => true,
-        _ => false,
-    }
+    matches!(tag, 1..=7)
 }
 
 // "05 occurs once", 06 "at most once"
 pub fn comes_once(tag: u8) -> bool
     ensures { result ≡ comes_once tag }
 {
-    match tag {
-        5..=6 => true,
-        _ => false,
-    }
+    matches!(tag, 5..=6)
 }
 
 fn between(least: u16, size: u16, most: u16) -> bool
     ensures { result ≡ (leb least size && leb size most) }
 {
-    if size < least {
-        return false;
-    }
-    size <= most
+    (least..=most).contains(&size)
 }
 
 // The table "tag, length".

@@ -1,3 +1,4 @@
+pub mod Options
 pub mod Search
 pub mod Numbers
 pub mod Rows

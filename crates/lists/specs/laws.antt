@@ -1,4 +1,5 @@
 pub mod Bools
+pub mod Below
 pub mod Search
 pub mod Numbers
 pub mod Rows

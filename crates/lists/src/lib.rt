@@ -1,7 +1,5 @@
 // Definitions and laws on lists that know nothing of the product: searches, rows, places, orders. They stand in specs/, where the
-// crates above cite them. In code: lists compared with one another and with zeros, for each width of their numbers.
+// crates above cite them. In code: lists compared with one another and with zeros, whatever the width of their numbers.
 #![tactic(auto)]
 
-pub mod bytes;
-pub mod numbers;
-pub mod words;
+pub mod equal;

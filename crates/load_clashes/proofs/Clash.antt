@@ -10,7 +10,9 @@ use lib.ListN.{get_or}
 use lib.Dec.{ltb}
 use borrow.Author.Count.{below_more}
 use borrow.Author.Tests.{lt-ltb, not-true}
+use Rattle.std.specs.Prelude.{Some, None}
 use Rattle.lists.specs.Numbers.{first_from}
+use Rattle.lists.specs.Options.{as_option}
 use Rattle.lists.specs.Place.{at_place}
 use Rattle.lists.specs.laws.Bools.{both_true, true-both, not-both, some-some}
 use Rattle.lists.specs.laws.Numbers.{Finds, first-from}
@@ -31,12 +33,11 @@ use Rattle.rules_plan.specs.laws.Initiators.{initiator-below}
 use Rattle.rules_plan.specs.laws.InRange.{entry-ranged}
 use Rattle.rules_plan.specs.laws.Clashes.{used_low, May, may-use, mine, yours, both-use, clash-in-is, clash-in-none}
 use Rattle.rules_plan.specs.laws.Fair.{Fair}
-use Rattle.rules_plan.specs.declared.Search.TheVariants.{Nothing, Found}
 use Rattle.memory_plan.specs.Memory.{rows_of, paths_of, spans_of, aims_of, numbers_with}
-use Rattle.rules_plan.specs.Verdict.{search_of}
 use Rattle.load_slot_links.specs.Lanes.{lane_of, lanes_of, Searched}
 use Rattle.load_clashes.specs.Clashes.{meets, least_common}
 use Rattle.load_overruns.specs.laws.Entries.{RowOf, rows-rise, row_reads, row_small, entry_row}
+use Rattle.lists.specs.laws.Below.{none-told, some-told}
 use Rattle.load_slot_links.specs.laws.Lanes.{lane-of, lane-none}
 
 -- no row before this one meets one after it
@@ -123,8 +124,8 @@ module _ {p : Plan} {rows paths spans aims numbers : List ℕ} (s : Searched p r
 
   -- What the search answers: the first pair of rows that meet, with their least common link, or nothing.
   pub clash-found : (i j : ℕ) → i < 8 → Apart lanes i → j ≡ first_from (7 - i) (i + 1) (meets lanes i) → j < 8
-      → Found (Clash v (get_or rows i 0) (get_or rows j 0) (least_common (get_or lanes i 0) (get_or lanes j 0))) ≡ search_of (clash_in p p.entries v)
-  unfolding search_of May-here least_common
+      → Some (Clash v (get_or rows i 0) (get_or rows j 0) (least_common (get_or lanes i 0) (get_or lanes j 0))) ≡ as_option (clash_in p p.entries v)
+  unfolding May-here least_common
   clash-found i j small apart e low = answer (from-lane i link small on_both.0) (from-lane j link low on_both.1)
     where
       both : ℕ → Bool
@@ -148,10 +149,10 @@ module _ {p : Plan} {rows paths spans aims numbers : List ℕ} (s : Searched p r
       on_both = both_true (member link (get_or lanes i 0)) (member link (get_or lanes j 0)) ((first-from 64 0 both).found (omega (arith, link-low)))
 
       answer : (a : ℕ) × RowOf p i a × May p p.entries v a link → (b : ℕ) × RowOf p j b × May p p.entries v b link
-          → Found (Clash v (get_or rows i 0) (get_or rows j 0) link) ≡ search_of (clash_in p p.entries v)
+          → Some (Clash v (get_or rows i 0) (get_or rows j 0) link) ≡ as_option (clash_in p p.entries v)
       answer (a, row, m) (b, column, n) =
-          ap₂ (λ y z. Found (Clash v y z link)) (ap (λ l. get_or l i 0) s.rows ∙ row_reads p i a row) (ap (λ l. get_or l j 0) s.rows ∙ row_reads p j b column)
-          ∙ ap search_of (sym (clash-in-is p p.entries s.fair.ranges (entry-ranged p s.fair.ranges) v a b link slot (record { here = both-use slot order m n; least = under })))
+          ap₂ (λ y z. Some (Clash v y z link)) (ap (λ l. get_or l i 0) s.rows ∙ row_reads p i a row) (ap (λ l. get_or l j 0) s.rows ∙ row_reads p j b column)
+          ∙ ap as_option (sym (clash-in-is p p.entries s.fair.ranges (entry-ranged p s.fair.ranges) v a b link slot (record { here = both-use slot order m n; least = under })))
         where
           order : a < b
           order = rising-at (initiators p) i j a b (rows-rise p) row column (omega (arith, e, pairs.from))
@@ -183,9 +184,8 @@ module _ {p : Plan} {rows paths spans aims numbers : List ℕ} (s : Searched p r
                       true-both (ap (λ n. member l (get_or lanes n 0)) (sym one) ∙ w.in_one) (ap (λ n. member l (get_or lanes n 0)) (sym other) ∙ w.in-other) in
                       omega (arith, a_c, b-d, least l c (dec_lt l link))
 
-  pub clash-nothing : (n : ℕ) → 8 ≤ n → Apart lanes n → Nothing ≡ search_of (clash_in p p.entries v)
-  unfolding search_of
-  clash-nothing n h apart = ap search_of (sym (clash-in-none p p.entries s.fair.ranges (entry-ranged p s.fair.ranges) v slot none-meet))
+  pub clash-nothing : (n : ℕ) → 8 ≤ n → Apart lanes n → None ≡ as_option (clash_in p p.entries v)
+  clash-nothing n h apart = ap as_option (sym (clash-in-none p p.entries s.fair.ranges (entry-ranged p s.fair.ranges) v slot none-meet))
     where
       none-meet : (i j l : ℕ) → Clashing p p.entries v i j l → ⊥
       none-meet i j l c =
@@ -198,29 +198,18 @@ pub searched : {p : Plan} {rows paths spans aims numbers : List ℕ} (size : ℕ
     → Searched p rows paths spans aims numbers
 searched size fair alone rows paths spans aims numbers = record { fair = fair; alone = alone; rows = rows; paths = paths; spans = spans; aims = aims; size = size; numbers = numbers }
 
--- the slots one after another
-search-none : (o : Option Verdict) → Nothing ≡ search_of o → o ≡ none
-unfolding search_of
-search-none none e = refl
-search-none (some r) e = let z : ◌≡◌ {A = ℕ} 0 1 = cc in absurd (omega arith)
-
-search-some : (o : Option Verdict) (r : Verdict) → Found r ≡ search_of o → o ≡ some r
-unfolding search_of
-search-some none r e = let z : ◌≡◌ {A = ℕ} 0 1 = cc in absurd (omega arith)
-search-some (some q) r e = cc
-
 -- no slot before this one has a clash
 abbrev pub Quiet : Plan → ℕ → Type 0
 Quiet p slot = (v : ℕ) → v < slot → clash_in p p.entries v ≡ none
 
 module _ (p : Plan) (slot : ℕ) (quiet : Quiet p slot) where
-  pub quiet-more : Nothing ≡ search_of (clash_in p p.entries slot) → Quiet p (slot + 1)
-  quiet-more e = below_more (λ v. clash_in p p.entries v ≡ none) slot quiet (search-none (clash_in p p.entries slot) e)
+  pub quiet-more : None ≡ as_option (clash_in p p.entries slot) → Quiet p (slot + 1)
+  quiet-more e = below_more (λ v. clash_in p p.entries v ≡ none) slot quiet (none-told (clash_in p p.entries slot) e)
 
-  pub clash-first : (r : Verdict) → slot < 64 → Found r ≡ search_of (clash_in p p.entries slot) → Found r ≡ search_of (clash p p.entries)
-  unfolding clash search_of
-  clash-first r h e = ap search_of (sym (least-is (clash_in p p.entries) slot r h (search-some (clash_in p p.entries slot) r e) quiet))
+  pub clash-first : (r : Verdict) → slot < 64 → Some r ≡ as_option (clash_in p p.entries slot) → Some r ≡ as_option (clash p p.entries)
+  unfolding clash
+  clash-first r h e = ap as_option (sym (least-is (clash_in p p.entries) slot r h (some-told (clash_in p p.entries slot) r e) quiet))
 
-  pub clash-never : 64 ≤ slot → Nothing ≡ search_of (clash p p.entries)
-  unfolding clash search_of
-  clash-never h = ap search_of (sym (least-nothing (clash_in p p.entries) (λ v l. quiet v (omega arith))))
+  pub clash-never : 64 ≤ slot → None ≡ as_option (clash p p.entries)
+  unfolding clash
+  clash-never h = ap as_option (sym (least-nothing (clash_in p p.entries) (λ v l. quiet v (omega arith))))

@@ -1,12 +1,14 @@
 -- An entry after a plan: the verdict on it, and spans, aims and numbers with it, for each way that the code goes.
 use Rattle.std.proofs.Common.{◌≡◌, ℕ, ◌+◌, ◌*◌, ◌%◌, ◌^◌, ◌<◌, ◌≤◌, min, Bool, true, false, cond, ◌&&◌, eqb, List, [], ◌∷◌, length, set, sym, refl, ap, ◌∙◌, arith, length-set, lt-ltb, eqb-true}
 use mathlib.Core.List.{Memᴰ}
+use mathlib.Core.Logic.{◌≢◌}
 use mathlib.Core.Option.{some}
 use mathlib.Core.Bool.{and-true, and-false, or-true}
 use native.Mathlib.Decide.{dec_lt}
 use borrow.Author.Tests.{not-false}
 use Rattle.lists.specs.Search.{any, all, is_in, twice}
 use Rattle.lists.specs.Numbers.{first_from}
+use Rattle.lists.specs.Rows.{first_of}
 use Rattle.lists.specs.Place.{at_place}
 use Rattle.lists.specs.laws.Bools.{both_true, true-both, false-either, not-both}
 use Rattle.lists.specs.laws.Search.{any_none, any-elim, all-elim, all-intro}
@@ -15,7 +17,7 @@ use Rattle.bitsets.specs.Set.{member, listed}
 use Rattle.bitsets.specs.Packed.{packed-is, member-packed-below}
 use Rattle.rules_plan.specs.Plan.{nth, Entry, Plan, path, entry}
 use Rattle.rules_plan.specs.Meaning.{is_node, is_link, is_initiator, initiators, leads_from, has_path, stands_at}
-use Rattle.rules_plan.specs.Judge.{out_of_range, given_before, not_given, too_many, no_walk, no_path}
+use Rattle.rules_plan.specs.Judge.{over63, out_of_range, given_before, not_given, too_many, no_walk, no_path}
 use Rattle.rules_plan.specs.laws.Fair.{Fair}
 use Rattle.rules_plan.specs.laws.Items.{path-in}
 use Rattle.rules_plan.specs.laws.Ranges.{EntryRange, entry-range}
@@ -28,6 +30,8 @@ use Rattle.load_items.specs.laws.Sets.{node-told}
 use Rattle.memory_plan.specs.laws.InRows.{length-aims_of}
 use Rattle.load_turns.specs.Marked.{Marked, is_marked}
 use Rattle.load_turns.specs.laws.Summary.{aims-more}
+use Rattle.load_items.specs.Several.{several_fault}
+use Rattle.load_entries.proofs.Ranges.{entry-targets}
 use Rattle.load_entries.proofs.Slots.{span-some, span_none, spans-entry}
 use Rattle.load_items.specs.laws.Judged.{Judged, holds-taken, judged-6, judged-7, judged-8, judged-11, judged-0}
 
@@ -39,6 +43,13 @@ pub record Lent : Type 0 where
   pub spans : List ℕ
   pub aims : List ℕ
   pub numbers : List ℕ
+
+abbrev pub lent : (sets rows reach spans aims numbers : List ℕ) → Lent
+lent sets rows reach spans aims numbers = record { sets = sets; rows = rows; reach = reach; spans = spans; aims = aims; numbers = numbers }
+
+-- the entry that is judged
+abbrev pub asked : (initiator slot span : ℕ) (targets : List ℕ) → Entry
+asked initiator slot span targets = record { initiator = initiator; slot = slot; span = span; targets = targets }
 
 -- how many rows are looked through
 abbrev pub rows_in : Lent → ℕ
@@ -57,16 +68,16 @@ EntryAnswer m spans aims numbers x r = (size : ℕ) (p : Plan) → Fair p → m.
     × (aims ≡ aims_of (taken p (entry x)))
     × (numbers ≡ numbers_with size (taken p (entry x)))
 
--- how far the code has come: x is in range, and r is what the search through the rows finds
+-- how far the code has come: x is in range, no target stands twice, and r is what the search through the rows finds
 pub record Sought (m : Lent) (x : Entry) (r : ℕ) : Type 0 where
   pub inside : out_of_range (entry x) ≡ false
+  pub once : twice x.targets ≡ false
   pub found : r ≡ first_from (rows_in m) 0 (is_row m.rows x.initiator)
 
--- further: no entry stands in that row, and no target stands twice
+-- further: no entry stands in that row
 pub record Free (m : Lent) (x : Entry) (r : ℕ) : Type 0 where
   pub sought : Sought m x r
   pub alone : r < rows_in m → nth m.spans (r * 64 + x.slot) ≡ 0
-  pub once : twice x.targets ≡ false
 
 -- what the arrays tell if they hold the fair plan p
 record Holding (m : Lent) (size : ℕ) (p : Plan) : Type 0 where
@@ -147,15 +158,36 @@ refused m x n f size p fair a b c d e g =
 pub entry-refused : (m : Lent) (x : Entry) → out_of_range (entry x) ≡ true → EntryAnswer m m.spans m.aims m.numbers x 6
 entry-refused m x h = refused m x 6 (λ size p held. judged-6 p (entry x) h)
 
--- row 7: an entry stands there, or a target stands twice
+-- the targets gone through, of an entry whose other numbers are in range: one is over 63, or one stands twice, or neither
+module _ (m : Lent) (x : Entry) (i : x.initiator ≤ 63) (v : x.slot ≤ 63) (z : x.span ≡ 0 → ⊥) (n : x.span ≤ 16) where
+  by-targets : any over63 x.targets ≡ out_of_range (entry x)
+  by-targets = entry-targets x.initiator x.slot x.span x.targets i v z n
+
+  pub entry-several : (k : ℕ) → k ≡ several_fault x.targets → k ≢ 0 → EntryAnswer m m.spans m.aims m.numbers x k
+  unfolding several_fault first_of given_before
+  entry-several k is nonzero = go (any over63 x.targets) refl (twice x.targets) refl
+    where
+      go : (a : Bool) → any over63 x.targets ≡ a → (b : Bool) → twice x.targets ≡ b → EntryAnswer m m.spans m.aims m.numbers x k
+      go true e b f = let six : k ≡ 6 = is ∙ rw e in rw six (entry-refused m x (sym by-targets ∙ e))
+      go false e true f =
+          let seven : k ≡ 7 = is ∙ rw (e, f) in
+          rw seven (refused m x 7 (λ size p held. judged-7 p (entry x) (sym by-targets ∙ e) (rw f (or-true (any (stands_at x.initiator x.slot) p.entries)))))
+      go false e false f = absurd (nonzero (is ∙ rw (e, f)))
+
+  pub seek : (r : ℕ) → r ≡ first_from (rows_in m) 0 (is_row m.rows x.initiator) → 0 ≡ several_fault x.targets → Sought m x r
+  unfolding several_fault first_of
+  seek r f is = go (any over63 x.targets) refl (twice x.targets) refl
+    where
+      go : (a : Bool) → any over63 x.targets ≡ a → (b : Bool) → twice x.targets ≡ b → Sought m x r
+      go true e b g = let six : 0 ≡ 6 = is ∙ rw e in absurd (omega (arith, six))
+      go false e true g = let seven : 0 ≡ 7 = is ∙ rw (e, g) in absurd (omega (arith, seven))
+      go false e false g = record { inside = sym by-targets ∙ e; once = g; found = f }
+
+-- row 7: an entry stands there
 module _ {m : Lent} {x : Entry} {r : ℕ} (s : Sought m x r) where
   pub entry-again : r < rows_in m → (nth m.spans (r * 64 + x.slot) ≡ 0 → ⊥) → EntryAnswer m m.spans m.aims m.numbers x 7
   unfolding given_before
   entry-again h z = refused m x 7 (λ size p held. judged-7 p (entry x) s.inside (rw (somebody m x r s size p held h z)))
-
-  pub entry-twice : twice x.targets ≡ true → EntryAnswer m m.spans m.aims m.numbers x 7
-  unfolding given_before
-  entry-twice h = refused m x 7 (λ size p held. judged-7 p (entry x) s.inside (rw h (or-true (any (stands_at x.initiator x.slot) p.entries))))
 
 -- who has a path is a node, and so is whom it leads to
 path-nodes : (p : Plan) → Fair p → (i t : ℕ) → has_path p i t ≡ true → (is_node p i ≡ true) × (is_node p t ≡ true)
@@ -177,7 +209,7 @@ all-nodes p f i (t ∷ ts) l h =
 module _ {m : Lent} {x : Entry} {r : ℕ} (s : Free m x r) where
   new : (size : ℕ) (p : Plan) → Holding m size p → given_before p (entry x) ≡ false
   unfolding given_before
-  new size p held = false-either (nobody m x r s.sought size p held s.alone) s.once
+  new size p held = false-either (nobody m x r s.sought size p held s.alone) s.sought.once
 
   -- rows 8 and 11: a target is not reached
   missing : (b c : Bool) → member x.initiator (nth m.sets 0) ≡ b → all_in (nth m.sets 0) x.targets ≡ c

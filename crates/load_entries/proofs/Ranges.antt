@@ -1,6 +1,6 @@
--- Row 6 of an entry from the comparisons that the code makes, one by one: the first that fails decides; the targets are left to the
--- pass over them.
+-- Row 6 of an entry from the comparisons that the code makes: one that fails is enough, and else the targets decide.
 use Rattle.std.proofs.Common.{◌≡◌, ℕ, ◌<◌, ◌≤◌, true, false, ◌||◌, eqb, ltb, List, le-ltb, lt-ltb, eq-eqb, ne_eqb}
+use mathlib.Core.Logic.{◌⊎◌, inl, inr}
 use mathlib.Core.Bool.{or-true}
 use Rattle.lists.specs.Search.{any}
 use Rattle.lists.specs.laws.Bools.{neither}
@@ -9,21 +9,13 @@ use Rattle.memory_plan.specs.Take.{entry_item}
 use Rattle.load_items.specs.laws.Ranges.{over, under}
 
 module _ (initiator slot span : ℕ) (targets : List ℕ) where
-  pub entry-initiator : 63 < initiator → out_of_range (entry_item initiator slot span targets) ≡ true
+  pub entry-out : (63 < initiator) ⊎ (((initiator ≤ 63) × (63 < slot)) ⊎ (((initiator ≤ 63) × (slot ≤ 63) × (span ≡ 0)) ⊎ ((initiator ≤ 63) × (slot ≤ 63) × (span ≡ 0 → ⊥) × (16 < span))))
+      → out_of_range (entry_item initiator slot span targets) ≡ true
   unfolding out_of_range
-  entry-initiator h = rw (over initiator h)
-
-  pub entry-slot : 63 < slot → out_of_range (entry_item initiator slot span targets) ≡ true
-  unfolding out_of_range
-  entry-slot h = simp (over slot h, or-true)
-
-  pub entry-no-span : span ≡ 0 → out_of_range (entry_item initiator slot span targets) ≡ true
-  unfolding out_of_range
-  entry-no-span h = simp (eq-eqb span 0 h, or-true)
-
-  pub entry-span : 16 < span → out_of_range (entry_item initiator slot span targets) ≡ true
-  unfolding out_of_range
-  entry-span h = simp (lt-ltb 16 span h, or-true)
+  entry-out (inl h) = rw (over initiator h)
+  entry-out (inr (inl h)) = simp (over slot h.1, or-true)
+  entry-out (inr (inr (inl h))) = simp (eq-eqb span 0 h.2, or-true)
+  entry-out (inr (inr (inr h))) = simp (lt-ltb 16 span h.3, or-true)
 
   -- the targets are left to decide
   pub entry-targets : initiator ≤ 63 → slot ≤ 63 → (span ≡ 0 → ⊥) → span ≤ 16 → any over63 targets ≡ out_of_range (entry_item initiator slot span targets)

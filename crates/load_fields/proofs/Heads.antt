@@ -17,8 +17,7 @@ use Rattle.rules_plan.specs.Plan.{Plan, Item}
 use Rattle.rules_plan.specs.Fields.{is_tag, comes_once, length_allowed, tag_at, size_at, content_at, next_at, item_of, item_at}
 use Rattle.rules_plan.specs.Judge.{head_rows, field_rows, field_fault}
 use Rattle.rules_plan.specs.laws.Tags.{item-of}
-use Rattle.file_field.specs.declared.field.Head.TheVariants.{Fault, Field}
-use Rattle.file_field.specs.Head.{head_fault, head_of}
+use Rattle.file_field.specs.Head.{field, faulty, head_fault, head_of}
 use Rattle.memory_plan.specs.Take.{item_fault}
 
 -- a head without a fault: what rows 2 to 5 leave of it
@@ -37,25 +36,25 @@ module _ (s : List ℕ) (at before : ℕ) where
   heads-rise = refl
 
   -- what the reader answers
-  pub head-fault : (n : ℕ) → head_of s at before ≡ Fault n → (head_fault s at before ≡ n) × (n ≢ 0)
+  pub head-fault : (n : ℕ) → head_of s at before ≡ faulty n → (head_fault s at before ≡ n) × (n ≢ 0)
   unfolding head_of
   head-fault n h = go (eqb (head_fault s at before) 0) refl
     where
       go : (b : Bool) → eqb (head_fault s at before) 0 ≡ b → (head_fault s at before ≡ n) × (n ≢ 0)
-      go true e = let g : Field (tag_at s at) (size_at s at) ≡ Fault n = rw (e, head_of) at h in let z : ◌≡◌ {A = ℕ} 0 1 = cc in absurd (omega arith)
+      go true e = let g : field (tag_at s at) (size_at s at) ≡ faulty n = rw (e, head_of) at h in let z : ◌≡◌ {A = ℕ} 0 1 = cc in absurd (omega arith)
       go false e =
-          let g : Fault (head_fault s at before) ≡ Fault n = rw (e, head_of) at h in
+          let g : faulty (head_fault s at before) ≡ faulty n = rw (e, head_of) at h in
           let same : head_fault s at before ≡ n = cc in
           (same, λ z. eqb-false (head_fault s at before) 0 e (same ∙ z))
 
-  pub head-fine : (tag size : ℕ) → head_of s at before ≡ Field tag size → Fine s at before tag size
+  pub head-fine : (tag size : ℕ) → head_of s at before ≡ field tag size → Fine s at before tag size
   unfolding head_of head_fault head_rows test_of
   head-fine tag size h = go (eqb (head_fault s at before) 0) refl
     where
       go : (b : Bool) → eqb (head_fault s at before) 0 ≡ b → Fine s at before tag size
-      go false e = let g : Fault (head_fault s at before) ≡ Field tag size = rw (e, head_of) at h in let z : ◌≡◌ {A = ℕ} 0 1 = cc in absurd (omega arith)
+      go false e = let g : faulty (head_fault s at before) ≡ field tag size = rw (e, head_of) at h in let z : ◌≡◌ {A = ℕ} 0 1 = cc in absurd (omega arith)
       go true e =
-          let g : Field (tag_at s at) (size_at s at) ≡ Field tag size = rw (e, head_of) at h in
+          let g : field (tag_at s at) (size_at s at) ≡ field tag size = rw (e, head_of) at h in
           let none : head_fault s at before ≡ 0 = eqb-true (head_fault s at before) 0 e in
           record {
             clean = none;

@@ -1,6 +1,7 @@
 -- Where reading stands in a file: the plan so far, which memory holds, and that what is judged from here on is the verdict on the whole.
 use mathlib.Core.Path.{◌≡◌, refl, sym, subst, ◌∙◌}
 use mathlib.Core.Logic.{◌≢◌}
+use Rattle.std.specs.Prelude.{Ok, Err}
 use mathlib.Core.List.{List, flat_map}
 use mathlib.Core.Option.{some}
 use mathlib.Core.Bool.{◌&&◌}
@@ -22,10 +23,13 @@ use Rattle.rules_plan.specs.laws.Fields.{tag-here}
 use Rattle.rules_plan.specs.laws.Reading.{holds}
 use Rattle.rules_plan.specs.laws.Whole.{given-plan}
 use Rattle.rules_plan.specs.laws.Accepted.{file-length}
-use Rattle.file_field.specs.declared.field.Head.TheVariants.{Fault}
 use Rattle.memory_plan.specs.Memory.{numbers_with, HoldsSized, Holds}
 use Rattle.memory_plan.specs.Take.{item_fault, taken}
-use Rattle.file_field.specs.Head.{head_of}
+use Rattle.file_field.specs.Head.{faulty, head_of}
+use Rattle.rules_plan.specs.declared.Fault.{Fault}
+use Rattle.rules_plan.specs.Numbers.{fault_number}
+use Rattle.rules_plan.specs.laws.Numbers.{some-fault}
+use Rattle.load_fields.specs.declared.FaultAt.{FaultAt}
 use Rattle.load_fields.specs.Fields.{Awaits, Takes, ReadIn}
 use Rattle.load_fields.proofs.Heads.{Fine, head-fault, fault-of-head, fault-of-item}
 
@@ -63,9 +67,9 @@ module _ {c d e f g h i j : List ℕ} where
 
   module _ {s : List ℕ} {at before : ℕ} (w : Stands s at before c d e f g h i j) where
     -- at the end of the file memory has its plan
-    pub ends_there : length s ≤ at → ReadIn s 0 at c d e f g h i j
+    pub ends_there : length s ≤ at → ReadIn s (Ok _) c d e f g h i j
     unfolding read_from
-    ends_there l = record { within = w.within; faulty = λ z. absurd (z refl); whole = λ z. rw is reads; memory = λ z. rw is kept }
+    ends_there l = record { within = _; faulty = _; whole = rw is reads; memory = rw is kept }
       where
         reads : read_file s ≡ plan w.so_far
         reads = w.same ∙ go w.fuel
@@ -92,13 +96,17 @@ module _ {c d e f g h i j : List ℕ} where
           go zero l = absurd (omega arith)
           go (suc k) l = rw (lt-leb (length s) at more, read_from, ne_eqb (field_fault w.so_far s at before) 0 z)
 
-      answers : (n : ℕ) → n ≢ 0 → field_fault w.so_far s at before ≡ n → {c' d' e' f' g' h' i' j' : List ℕ} → ReadIn s n at c' d' e' f' g' h' i' j'
-      answers n z is = record { within = w.within; faulty = λ _. rw is at (stops (λ y. z (sym is ∙ y))); whole = λ y. absurd (z y); memory = λ y. absurd (z y) }
+      -- what is answered then
+      abbrev pub fault_here : Fault → FaultAt
+      fault_here f = record { fault = f; at = at }
 
-      pub stops-at-head : (n : ℕ) → head_of s at before ≡ Fault n → {c' d' e' f' g' h' i' j' : List ℕ} → ReadIn s n at c' d' e' f' g' h' i' j'
-      stops-at-head n head =
-          let r = head-fault s at before n head in
-          answers n r.1 (fault-of-head s at before w.so_far (λ y. r.1 (sym r.0 ∙ y)) ∙ r.0)
+      answers : (f : Fault) → field_fault w.so_far s at before ≡ fault_number f → {c' d' e' f' g' h' i' j' : List ℕ} → ReadIn s (Err (fault_here f)) c' d' e' f' g' h' i' j'
+      answers f is = record { within = w.within; faulty = rw is at (stops (λ y. some-fault f (sym is ∙ y))); whole = _; memory = _ }
+
+      pub stops-at-head : (f : Fault) → faulty (fault_number f) ≡ head_of s at before → {c' d' e' f' g' h' i' j' : List ℕ} → ReadIn s (Err (fault_here f)) c' d' e' f' g' h' i' j'
+      stops-at-head f head =
+          let r = head-fault s at before (fault_number f) (sym head) in
+          answers f (fault-of-head s at before w.so_far (λ y. r.1 (sym r.0 ∙ y)) ∙ r.0)
 
       module _ {tag size : ℕ} (good : Fine s at before tag size) where
         rises : before ≤ tag
@@ -112,21 +120,21 @@ module _ {c d e f g h i j : List ℕ} where
           times = λ is. no-times w.so_far before w.up_to (follows-smaller 6 before (rw (sym good.tag_is ∙ is) at good.order));
         }
 
-        module _ (x : Item) (item : item_at s at ≡ some x) (n : ℕ) where
-          pub stops-at-item : n ≡ item_fault w.so_far x → n ≢ 0 → {c' d' e' f' g' h' i' j' : List ℕ} → ReadIn s n at c' d' e' f' g' h' i' j'
-          stops-at-item is z = answers n z (fault-of-item s at before w.so_far x good.clean item ∙ sym is)
+        module _ (x : Item) (item : item_at s at ≡ some x) where
+          pub stops-at-item : (f : Fault) → fault_number f ≡ item_fault w.so_far x → {c' d' e' f' g' h' i' j' : List ℕ} → ReadIn s (Err (fault_here f)) c' d' e' f' g' h' i' j'
+          stops-at-item f is = answers f (fault-of-item s at before w.so_far x good.clean item ∙ sym is)
 
           -- a field without one is passed
-          pub passes : {c' d' e' f' g' h' i' j' : List ℕ} → Takes at w.so_far x n c' d' e' f' g' h' i' j' → n ≡ 0
+          pub passes : {c' d' e' f' g' h' i' j' : List ℕ} → Takes at w.so_far x 0 c' d' e' f' g' h' i' j'
               → Stands s (at + 3 + size) tag c' d' e' f' g' h' i' (set j' 5 (at + 3 + size))
           unfolding taken with_field read_from
-          passes {c'} {d'} {e'} {f'} {g'} {h'} {i'} {j'} t z = rw (good.tag_is, good.size_is) (go w.fuel w.enough w.same)
+          passes {c'} {d'} {e'} {f'} {g'} {h'} {i'} {j'} t = rw (good.tag_is, good.size_is) (go w.fuel w.enough w.same)
             where
               p : Plan
               p = w.so_far
 
               fine : item_fault p x ≡ 0
-              fine = sym t.answer ∙ z
+              fine = sym t.answer
 
               faultless : field_fault p s at before ≡ 0
               faultless = fault-of-item s at before p x good.clean item ∙ fine

@@ -4,19 +4,23 @@ use mathlib.Core.Logic.{◌⊎◌, inl, inr}
 use mathlib.Core.List.{List, [], ◌++◌}
 use mathlib.Core.Option.{Option, none, some}
 use mathlib.Core.Bool.{Bool, true, false, cond}
-use Prim.Native.Nat.{ℕ, ◌/◌, ◌%◌, ◌≤◌}
+use Prim.Native.Nat.{ℕ, ◌-◌, ◌/◌, ◌%◌, ◌≤◌}
 use native.Mathlib.Omega.{arith}
 use lib.Dec.{eqb}
+use lib.ListN.{length, take, drop, length-drop}
+use Rattle.lists.specs.laws.Parts.{from-to-end}
+use Rattle.lists.specs.Rows.{first_of}
+use Rattle.rules_plan.specs.Judge.{out_of_range, given_before, not_given, too_many, no_walk, no_path, item_rows}
 use Rattle.lists.specs.Search.{find}
 use Rattle.lists.specs.Cells.{cells}
 use Rattle.lists.specs.laws.Bools.{some-some}
-use Rattle.rules_plan.specs.Plan.{two, four, Device, Link, Route, Entry, Timing, Times, Plan, Item, device, link, path, entry, timing, times, reply, grow}
+use Rattle.rules_plan.specs.Plan.{nth, two, four, Device, Link, Route, Entry, Timing, Times, Plan, Item, device, link, path, entry, timing, times, reply, grow}
 use Rattle.rules_plan.specs.Fields.{as_path, as_times, as_reply, Tag, tags, tag_of, length_allowed, item_of}
 use Rattle.rules_plan.specs.Meaning.{has_kind, is_link, is_initiator, initiators, has_path, entry_at}
 use Rattle.rules_plan.specs.laws.Lengths.{allowed}
 use Rattle.rules_plan.specs.laws.Items.{UpTo, no-entries}
 use Rattle.memory_plan.specs.Memory.{sets_of, ends_of, rows_of, of_row, reach_of, paths_in_order, replies_in_order, paths_of, span_of, spans_of, aim_of, slot_aims, has_target, longer_than, slots_with, turns_of, long_of, aims_of, costs_among, numbers_with, HoldsSized}
-use Rattle.memory_plan.specs.Take.{item_fault, taken, times_item}
+use Rattle.memory_plan.specs.Take.{item_fault, taken, path_item, reply_item, times_item}
 use Rattle.memory_plan.specs.laws.RowCells.{no_cells}
 use Rattle.memory_plan.specs.laws.Turns.{no-slots}
 use Rattle.load_fields.specs.Fields.{Takes, TakesRoute}
@@ -35,6 +39,42 @@ pub route-sized : (n size : ℕ) → length_allowed n size ≡ true → (n ≡ 3
 unfolding tag_of tags find
 route-sized n size h (inl e) = between e refl size h
 route-sized n size h (inr e) = between e refl size h
+
+-- the least length of the other contents
+pub sized-1 : (n size : ℕ) → n ≡ 1 → length_allowed n size ≡ true → 2 ≤ size
+unfolding tag_of tags find
+sized-1 n size is h = (between is refl size h).0
+
+pub sized-2 : (n size : ℕ) → n ≡ 2 → length_allowed n size ≡ true → 3 ≤ size
+unfolding tag_of tags find
+sized-2 n size is h = (between is refl size h).0
+
+pub sized-4 : (n size : ℕ) → n ≡ 4 → length_allowed n size ≡ true → 4 ≤ size
+unfolding tag_of tags find
+sized-4 n size is h = (between is refl size h).0
+
+pub sized-5 : (n size : ℕ) → n ≡ 5 → length_allowed n size ≡ true → 8 ≤ size
+unfolding tag_of tags find
+sized-5 n size is h = (between is refl size h).0
+
+pub sized-6 : (n size : ℕ) → n ≡ 6 → length_allowed n size ≡ true → 22 ≤ size
+unfolding tag_of tags find
+sized-6 n size is h = (between is refl size h).0
+
+-- the links of a 03 or a 07 are what is left of its content, and its item the path, or the reply, over them
+abbrev pub links-in : List ℕ → List ℕ
+links-in content = take (length content - 2) (drop 2 content)
+
+pub few-links : (n : ℕ) (content : List ℕ) → length_allowed n (length content) ≡ true → (n ≡ 3) ⊎ (n ≡ 7) → length (links-in content) ≤ 8
+few-links n content h is = rw (from-to-end 2 content) (omega (arith, length-drop 2 content, (route-sized n (length content) h is).1))
+
+pub path-read : (n : ℕ) (content : List ℕ) (x : Item) → n ≡ 3 → item_of n content ≡ some x → x ≡ path_item (nth content 0) (nth content 1) (links-in content)
+unfolding tag_of tags find as_path
+path-read n content x w is = reads_as w refl content x is ∙ ap (path_item (nth content 0) (nth content 1)) (sym (from-to-end 2 content))
+
+pub reply-read : (n : ℕ) (content : List ℕ) (x : Item) → n ≡ 7 → item_of n content ≡ some x → x ≡ reply_item (nth content 0) (nth content 1) (links-in content)
+unfolding tag_of tags find as_reply
+reply-read n content x w is = reads_as w refl content x is ∙ ap (reply_item (nth content 0) (nth content 1)) (sym (from-to-end 2 content))
 
 -- the content of a 06, number by number
 pub times-read : (s : List ℕ) {rate a d f g slot : ℕ} → rate ≡ two s 0 → a ≡ four s 2 → d ≡ four s 6 → f ≡ four s 10 → g ≡ four s 14 → slot ≡ four s 18 → times_item rate a d f g slot ≡ as_times s

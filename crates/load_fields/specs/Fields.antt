@@ -1,9 +1,11 @@
 -- Reading the fields of a file into memory: what memory holds on the way, which field may come next, and what came of it.
-use Rattle.std.specs.Prelude.{◌≡◌, ◌≢◌, List, [], ℕ, ◌≤◌, length}
+use Rattle.std.specs.Prelude.{◌≡◌, List, [], ℕ, ◌≤◌, length, Result, IfErr, OnOk}
 use Rattle.rules_plan.specs.Plan.{Plan, Item}
+use Rattle.rules_plan.specs.Numbers.{fault_number}
 use Rattle.rules_plan.specs.Judge.{plan, fault, read_file}
 use Rattle.rules_plan.specs.Canon.{given}
 use Rattle.rules_plan.specs.laws.Items.{UpTo}
+use Rattle.load_fields.specs.declared.FaultAt.{FaultAt}
 use Rattle.memory_plan.specs.Memory.{rows_of, reach_of, paths_of, numbers_with, HoldsSized, Holds}
 use Rattle.memory_plan.specs.Take.{item_fault, taken}
 
@@ -26,9 +28,9 @@ pub record TakesRoute (size : ℕ) (p : Plan) (x : Item) (r : ℕ) (rows' reach'
   pub paths : paths' ≡ paths_of (taken p x)
   pub numbers : numbers' ≡ numbers_with size (taken p x)
 
--- file s was read with the answer n and at: the number of its first fault and the offset of that field; or 0, and memory has its plan
-pub record ReadIn (s : List ℕ) (n at : ℕ) (sets' ends' rows' reach' paths' spans' aims' numbers' : List ℕ) : Type 0 where
-  pub within : at ≤ length s
-  pub faulty : n ≢ 0 → read_file s ≡ fault n at
-  pub whole : n ≡ 0 → read_file s ≡ plan (given s)
-  pub memory : n ≡ 0 → Holds (given s) sets' ends' rows' reach' paths' spans' aims' numbers'
+-- file s was read with the answer r: its first fault and the offset of that field; or memory has its plan
+pub record ReadIn (s : List ℕ) (r : Result (Unit {0}) FaultAt) (sets' ends' rows' reach' paths' spans' aims' numbers' : List ℕ) : Type 0 where
+  pub within : IfErr r (λ f. f.at ≤ length s)
+  pub faulty : IfErr r (λ f. read_file s ≡ fault (fault_number f.fault) f.at)
+  pub whole : OnOk r (read_file s ≡ plan (given s))
+  pub memory : OnOk r (Holds (given s) sets' ends' rows' reach' paths' spans' aims' numbers')

@@ -1,1 +1,2 @@
+pub mod Several
 pub mod laws

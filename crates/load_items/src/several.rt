@@ -1,16 +1,10 @@
 // The numbers of a field, gone through once.
-ghost use Rattle.std.specs.Prelude.{◌≡◌, false, ℕ, ◌<◌};
-ghost use Rattle.lists.specs.Search.{any, twice};
+ghost use Rattle.std.specs.Prelude.{◌≡◌, ℕ, ◌<◌, IfOk};
 ghost use Rattle.bitsets.specs.Set.{member, alone, listed};
-ghost use Rattle.rules_plan.specs.Judge.{over63};
+ghost use Rattle.rules_plan.specs.Numbers.{fault_told};
+ghost use Rattle.load_items.specs.Several.{several_fault};
 
-// What one pass over the numbers of a field tells: whether one is over 63, and, where none is, whether one stands twice, and their set.
-#[derive(Drop)]
-pub struct Gathered {
-    pub over: bool,
-    pub again: bool,
-    pub set: u64,
-}
+use rules_plan::Fault;
 
 // The set of a number below 64 alone. (What it is of other numbers is not said: so it is one shift and no test.)
 pub fn bit_of(n: u8) -> u64
@@ -19,24 +13,24 @@ pub fn bit_of(n: u8) -> u64
     1u64 << (n % 64)
 }
 
-pub fn gather(s: &[u8]) -> Gathered
-    ensures { (result.over ≡ any over63 s.now) × (any over63 s.now ≡ false →
-        (result.again ≡ twice s.now) × ((k : ℕ) → member k result.set ≡ listed s.now k)) }
+// The set of the numbers of a field: verdict 6 where one is over 63, else 7 where one stands twice. (Both are known after one pass, without a
+// test for each number.)
+pub fn gather(s: &[u8]) -> Result<u64, Fault>
+    ensures { (fault_told result ≡ several_fault s.now) × IfOk result (λ set. (k : ℕ) → member k set ≡ listed s.now k) }
 {
     let mut over: u8 = 0;
     let mut again: u64 = 0;
     let mut set: u64 = 0;
-    let mut k = 0;
-    while k < s.len() {
-        let n = s[k];
-        over = over | n;
-        again = again | (set >> (n % 64));
-        set = bit_of(n) | set;
-        k += 1;
+    for n in s {
+        over |= *n;
+        again |= set >> (*n % 64);
+        set |= bit_of(*n);
     }
-    Gathered {
-        over: 63 < over,
-        again: bitsets::has(again, 0),
-        set,
+    if 63 < over {
+        return Err(Fault::OutOfRange);
     }
+    if bitsets::has(again, 0) {
+        return Err(Fault::GivenBefore);
+    }
+    Ok(set)
 }

@@ -10,7 +10,7 @@ ghost use Rattle.memory_plan.specs.Lent.{at_exit};
 use crate::whole::judge_whole;
 use load_fields::read_fields;
 use memory_plan::layout::*;
-use rules_plan::Verdict;
+use rules_plan::{Fault, Verdict};
 
 // Every verdict: memory, which holds no plan before, has the file's plan where the verdict is 0.
 pub fn judge_into(
@@ -29,17 +29,14 @@ pub fn judge_into(
 {
     if 16384 < file.len() {
         return Verdict::Faulty {
-            number: 1,
+            number: u8::from(Fault::FileTooLong),
             place: 0,
         };
     }
-    let read = read_fields(file, sets, ends, rows, reach, paths, spans, aims, numbers);
-    let number = read.number;
-    if number != 0 {
-        let at = read.at;
+    if let Err(first) = read_fields(file, sets, ends, rows, reach, paths, spans, aims, numbers) {
         return Verdict::Faulty {
-            number,
-            place: at as u16,
+            number: u8::from(first.fault),
+            place: first.at as u16,
         };
     }
     judge_whole(file, sets, rows, paths, spans, aims, numbers)

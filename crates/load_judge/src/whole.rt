@@ -9,7 +9,7 @@ ghost use Rattle.memory_plan.specs.Memory.{sets_of, rows_of, paths_of, spans_of,
 use load_clashes::find_clash;
 use load_overruns::find_overrun;
 use memory_plan::layout::*;
-use rules_plan::{Search, Verdict};
+use rules_plan::{Fault, Verdict};
 
 // The counts of the plan that memory holds.
 fn counted(sets: &Sets, numbers: &Numbers) -> Verdict
@@ -45,23 +45,21 @@ pub fn judge_whole(
 {
     if numbers[GREATEST] == 0 {
         return Verdict::Faulty {
-            number: 12,
+            number: u8::from(Fault::NoIntervals),
             place: file.len() as u16,
         };
     }
     if numbers[ENTRIES] == 0 {
         return Verdict::Faulty {
-            number: 15,
+            number: u8::from(Fault::NoEntry),
             place: file.len() as u16,
         };
     }
-    let overrun = find_overrun(rows, spans, numbers);
-    if let Search::Found { verdict } = overrun {
-        return verdict;
+    if let Some(overrun) = find_overrun(rows, spans, numbers) {
+        return overrun;
     }
-    let clash = find_clash(rows, paths, spans, aims, numbers);
-    if let Search::Found { verdict } = clash {
-        return verdict;
+    if let Some(clash) = find_clash(rows, paths, spans, aims, numbers) {
+        return clash;
     }
     counted(sets, numbers)
 }

@@ -11,7 +11,9 @@ use lib.ListN.{length, get_or}
 use lib.Dec.{ltb, eqb}
 use borrow.Author.Count.{below_more}
 use borrow.Author.Tests.{ltb-true, lt-ltb, le-ltb, eqb-false, eq-eqb, ne_eqb, not-true}
+use Rattle.std.specs.Prelude.{Some, None}
 use Rattle.lists.specs.Numbers.{first_from}
+use Rattle.lists.specs.Options.{as_option}
 use Rattle.lists.specs.laws.Bools.{both_true, true-both, not-both, some-some}
 use Rattle.lists.specs.laws.Numbers.{any-true, first-from}
 use Rattle.lists.specs.laws.Sweep.{any_below_lem}
@@ -24,9 +26,7 @@ use Rattle.rules_plan.specs.Judge.{overrun}
 use Rattle.rules_plan.specs.Words.{Overrunning, pair}
 use Rattle.rules_plan.specs.laws.Overruns.{overrun-says, overrun-none}
 use Rattle.rules_plan.specs.laws.Fair.{Fair}
-use Rattle.rules_plan.specs.declared.Search.TheVariants.{Nothing, Found}
 use Rattle.memory_plan.specs.Memory.{rows_of, spans_of}
-use Rattle.rules_plan.specs.Verdict.{search_of}
 use Rattle.load_overruns.specs.Overruns.{cell_at, stands_after, runs_at}
 use Rattle.load_overruns.specs.laws.Entries.{RowOf, rows-rise, row_reads, fair-entry, entry_row, entry-span, cell-entry}
 
@@ -104,14 +104,13 @@ module _ (p : Plan) (fair : Fair p) where
 
   -- What the search answers: the first slot of the first row, or nothing.
   pub overrun-found : (r v : ℕ) → r < length (initiators p) → Clean (spans_of p) r → v ≡ first_from 64 0 (runs_at (spans_of p) r) → v < 64
-      → Found (Overrun (get_or (rows_of p) r 0) v) ≡ search_of (overrun p.entries)
-  unfolding search_of
+      → Some (Overrun (get_or (rows_of p) r 0) v) ≡ as_option (overrun p.entries)
   overrun-found r v h clean e slot =
       let (i, row) = at_some (initiators p) r h in
       let first = first-from 64 0 (runs_at (spans_of p) r) in
       let here : runs_at (spans_of p) r v ≡ true = rw e (first.found (omega arith)) in
-      ap (λ n. Found (Overrun n v)) (row_reads p r i row)
-      ∙ ap search_of (sym ((overrun-says p.entries (fair-entry p fair) (Overrun i v)).1 (i, v, refl, record { here = (runs-overrun r i v row slot).0 here; least = least i row })))
+      ap (λ n. Some (Overrun n v)) (row_reads p r i row)
+      ∙ ap as_option (sym ((overrun-says p.entries (fair-entry p fair) (Overrun i v)).1 (i, v, refl, record { here = (runs-overrun r i v row slot).0 here; least = least i row })))
     where
       least : (i : ℕ) → RowOf p r i → (j w : ℕ) → Overrunning p.entries j w → pair i v ≤ pair j w
       least i row j w o = let (s, at, low, runs) = seen j w o in go s at low runs (dec_lt s r) (dec_lt r s)
@@ -128,9 +127,8 @@ module _ (p : Plan) (fair : Fair p) where
               later t one (yes l) = not-both t ((first-from 64 0 (runs_at (spans_of p) r)).before w (omega arith) (omega arith))
               later t one (no l) = omega arith
 
-  pub overrun-nothing : (n : ℕ) → length (initiators p) ≤ n → Clean (spans_of p) n → Nothing ≡ search_of (overrun p.entries)
-  unfolding search_of
-  overrun-nothing n h clean = ap search_of (sym ((overrun-none p.entries (fair-entry p fair)).1 none_runs))
+  pub overrun-nothing : (n : ℕ) → length (initiators p) ≤ n → Clean (spans_of p) n → None ≡ as_option (overrun p.entries)
+  overrun-nothing n h clean = ap as_option (sym ((overrun-none p.entries (fair-entry p fair)).1 none_runs))
     where
       none_runs : (i v : ℕ) → Overrunning p.entries i v → ⊥
       none_runs i v o =

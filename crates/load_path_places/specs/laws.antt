@@ -1,3 +1,4 @@
 pub mod OwnRow
 pub mod PathPlace
 pub mod PathOf
+pub mod Room

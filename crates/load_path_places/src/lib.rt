@@ -2,7 +2,7 @@
 // of a pair stands.
 #![tactic(auto)]
 
-ghost use Rattle.std.specs.Prelude.{◌≡◌, [], ◌∷◌, ℕ, ◌≤◌, ◌<◌, length};
+ghost use Rattle.std.specs.Prelude.{◌≡◌, [], ◌∷◌, ℕ, ◌≤◌, ◌<◌, length, IfSome, unwrap_or};
 ghost use Rattle.lists.specs.Insert.{put_in};
 ghost use Rattle.rules_plan.specs.Plan.{Plan};
 ghost use Rattle.rules_plan.specs.laws.Fair.{Fair};
@@ -12,6 +12,20 @@ ghost use Rattle.memory_plan.specs.Memory.{paths_of, initiators_in};
 
 use memory_plan::layout::*;
 
+// Where a row for a new initiator goes among the first count rows: behind the last with a smaller one.
+fn row_place(rows: &Rows, count: usize, initiator: u8) -> usize
+    requires { count ≤ 7 }
+    ensures { (result ≤ count) × (result ≡ row_place rows.now count initiator) }
+{
+    let mut place = 0;
+    for k in 0..count {
+        if rows[k] < initiator {
+            place = k + 1;
+        }
+    }
+    place
+}
+
 // Makes a row for a new initiator, at its place among the first count rows, with no path yet; answers the row.
 fn insert_row(rows: &mut Rows, reach: &mut Reach, count: usize, initiator: u8) -> usize
     requires { count ≤ 7 }
@@ -20,16 +34,9 @@ fn insert_row(rows: &mut Rows, reach: &mut Reach, count: usize, initiator: u8) -
         × (rows.new ≡ put_in result count (initiator ∷ []) rows.old)
         × (reach.new ≡ put_in result count (0 ∷ []) reach.old)) }
 {
-    let mut k = count;
-    while 0 < k {
-        let before = rows[k - 1];
-        if before < initiator {
-            break;
-        }
-        rows[k] = before;
-        reach[k] = reach[k - 1];
-        k -= 1;
-    }
+    let k = row_place(rows, count, initiator);
+    rows.copy_within(k..count, k + 1);
+    reach.copy_within(k..count, k + 1);
     rows[k] = initiator;
     reach[k] = 0;
     k
@@ -60,19 +67,18 @@ pub fn own_row(
 }
 
 // Whether a path from initiator to target stands before path k in the order of writing out.
+#[tactic(auto, unfolding(crate::specs::Places::precedes))]
 fn stands_before(paths: &Paths, k: usize, initiator: u8, target: u8) -> bool
     requires { k < 128 }
     ensures { result ≡ precedes_at paths.now initiator target k }
 {
     let i = paths[k * PATH];
-    if i == initiator {
-        return target < paths[k * PATH + PATH_TARGET];
-    }
-    initiator < i
+    initiator < i || initiator == i && target < paths[k * PATH + PATH_TARGET]
 }
 
 // How many of the first count paths, which stand in order, stand before a path from initiator to target. The last is tried first, so that a
 // file that gives its paths in order needs no search.
+// Kept: the new form is no plainer (std's binary searches go over the elements of a slice, and a path is a row of eleven bytes).
 pub fn place_of(paths: &Paths, count: usize, initiator: u8, target: u8) -> usize
     requires { count ≤ 128 }
     ensures { (result ≤ count) × ((m : ℕ) → IsPlace paths.now count initiator target m → result ≡ m) }
@@ -96,21 +102,18 @@ pub fn place_of(paths: &Paths, count: usize, initiator: u8, target: u8) -> usize
     low
 }
 
-// The place of the path from initiator to target among the first count paths, which stand in order; 128 where there is none.
-pub fn path_of(paths: &Paths, count: usize, initiator: u8, target: u8) -> usize
+// The place of the path from initiator to target among the first count paths, which stand in order.
+pub fn path_of(paths: &Paths, count: usize, initiator: u8, target: u8) -> Option<usize>
     requires { count ≤ 128 }
-    ensures { (result ≤ 128) × ((p : Plan) → Fair p → paths.now ≡ paths_of p → count ≡ length p.paths → PathAt p initiator target result) }
+    ensures { (IfSome result (λ k. k < 128)) × ((p : Plan) → Fair p → paths.now ≡ paths_of p → count ≡ length p.paths → PathAt p initiator target (unwrap_or result 128)) }
 {
     let past = place_of(paths, count, initiator, target);
     if past == 0 {
-        return MOST_PATHS;
+        return None;
     }
     let k = past - 1;
-    if paths[k * PATH] != initiator {
-        return MOST_PATHS;
+    if paths[k * PATH] != initiator || paths[k * PATH + PATH_TARGET] != target {
+        return None;
     }
-    if paths[k * PATH + PATH_TARGET] != target {
-        return MOST_PATHS;
-    }
-    k
+    Some(k)
 }

@@ -22,11 +22,7 @@ fn make_room(paths: &mut Paths, start: usize, end: usize)
     requires { (start ≤ end) × (end ≤ 1397) }
     ensures { length paths.old ≡ 2816 → paths.new ≡ moved 11 start end paths.old }
 {
-    let mut n = end;
-    while start < n {
-        n -= 1;
-        paths[n + PATH] = paths[n];
-    }
+    paths.copy_within(start..end, start + PATH);
 }
 
 // Stores the row of a path, or of a reply, at a place: its initiator and its target first.
@@ -39,15 +35,9 @@ pub fn store_path(paths: &mut Paths, at: usize, initiator: u8, target: u8, links
     paths[at] = initiator;
     paths[at + PATH_TARGET] = target;
     paths[at + PATH_COUNT] = n as u8;
-    let mut k = 0;
-    while k < MOST_LINKS {
-        if k < n {
-            paths[at + PATH_LINKS + k] = links[k];
-        } else {
-            paths[at + PATH_LINKS + k] = 0;
-        }
-        k += 1;
-    }
+    let first = at + PATH_LINKS;
+    paths[first..first + n].copy_from_slice(links);
+    paths[first + n..at + PATH].fill(0);
 }
 
 // Keeps a path that has no fault: no entry, no times and no reply are there yet.
@@ -83,20 +73,14 @@ pub fn keep_path(
 fn reaches(reach: &Reach, row: usize, target: u8) -> bool
     ensures { (8 ≤ row → result ≡ false) × (row < 8 → result ≡ member target (nth reach.now row)) }
 {
-    if ROWS <= row {
-        return false;
-    }
-    bitsets::has(reach[row], target)
+    row < ROWS && bitsets::has(reach[row], target)
 }
 
 // Whether one path more is too many: its initiator would be the ninth, or itself the 129th.
 fn too_many(numbers: &Numbers, row: usize) -> bool
     ensures { result ≡ (leb 8 row || leb 128 (paths_in numbers.now)) }
 {
-    if ROWS <= row {
-        return true;
-    }
-    MOST_PATHS as u32 <= numbers[PATHS]
+    ROWS <= row || MOST_PATHS as u32 <= numbers[PATHS]
 }
 
 // What rows 7, 9 and 11 ask of a path, from initiator to target; its place is the row of its initiator.

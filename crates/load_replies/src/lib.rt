@@ -14,16 +14,13 @@ use load_paths::store_path;
 use memory_plan::at_most;
 use memory_plan::layout::*;
 use memory_plan::rows::row_among;
-use time_sheet::{cost, out_of_range, routers_over};
+use time_sheet::{Latencies, Pace, routers_over};
 
 // Whether the path at place k has a reply already. (128 says that there is no path.)
 fn has_reply(paths: &Paths, k: usize) -> bool
     ensures { result ≡ has_row paths.now k }
 {
-    if MOST_PATHS <= k {
-        return false;
-    }
-    paths[(REPLIES + k) * PATH + PATH_COUNT] != 0
+    k < MOST_PATHS && paths[(REPLIES + k) * PATH + PATH_COUNT] != 0
 }
 
 // Stores the fixed time by the rate of the pair, out over its path at place k and home over so many links. Without times the rate is 0, which is
@@ -40,24 +37,22 @@ fn put_home(
     requires { k < 128 }
     ensures { HomeOf k initiator target links rows.now paths.now numbers.old numbers.new }
 {
-    let rate = numbers[RATE];
-    let a = numbers[LATENCY_A];
-    let d = numbers[LATENCY_D];
-    let f = numbers[LATENCY_F];
-    let g = numbers[LATENCY_G];
-    if out_of_range(rate, a, d, f, g) {
+    let given = Latencies {
+        a: numbers[LATENCY_A],
+        d: numbers[LATENCY_D],
+        f: numbers[LATENCY_F],
+        g: numbers[LATENCY_G],
+    };
+    let Some(pace) = Pace::new(numbers[RATE], given) else {
         return;
-    }
+    };
     let row = row_among(rows, numbers[INITIATORS], initiator);
-    if ROWS <= row {
-        return;
-    }
-    if 64 <= target {
+    if ROWS <= row || 64 <= target {
         return;
     }
     let out = routers_over(paths[k * PATH + PATH_COUNT]);
     let home = routers_over(links);
-    numbers[COSTS + row * SLOTS + target as usize] = cost(out, home, rate, a, d, f, g);
+    numbers[COSTS + row * SLOTS + target as usize] = pace.cost(out, home);
 }
 
 // What rows 7, 9 and 11 ask of a reply, which starts at the target; its place is that of its path.
@@ -65,7 +60,7 @@ pub fn reply_asked(paths: &Paths, numbers: &Numbers, initiator: u8, target: u8) 
     ensures { ReplyAsked paths.now numbers.now initiator target result.start result.end result.place result.again result.many result.alone }
 {
     let count = at_most(numbers[PATHS], MOST_PATHS);
-    let k = path_of(paths, count, initiator, target);
+    let k = path_of(paths, count, initiator, target).unwrap_or(MOST_PATHS);
     Asked {
         start: target,
         end: initiator,

@@ -3,6 +3,7 @@
 
 ghost use Rattle.std.specs.Prelude.{◌≡◌, ◌||◌, ℕ, ◌<◌, min, length};
 ghost use Rattle.lists.specs.Numbers.{any_below};
+ghost use Rattle.lists.specs.Options.{if_below};
 ghost use Rattle.bitsets.specs.Set.{member, listed};
 ghost use Rattle.rules_plan.specs.Plan.{Plan};
 ghost use Rattle.load_slot_links.specs.Lanes.{cover_place, links_at, leads_over, lane_of, lanes_of, Searched};
@@ -10,20 +11,18 @@ ghost use Rattle.load_slot_links.specs.Lanes.{cover_place, links_at, leads_over,
 use memory_plan::at_most;
 use memory_plan::layout::*;
 
-// Where the entry of the row stands that covers the slot: 64 × row + its slot; 512 for none.
-fn covering(spans: &Spans, row: usize, slot: usize) -> usize
+// Where the entry of the row stands that covers the slot: 64 × row + its slot.
+fn covering(spans: &Spans, row: usize, slot: usize) -> Option<usize>
     requires { (row < 8) × (slot < 64) }
-    ensures { result ≡ cover_place spans.now row slot }
+    ensures { result ≡ if_below 512 (cover_place spans.now row slot) }
 {
-    let mut back: usize = 0;
-    while back < 16 {
-        let at = row * SLOTS + (slot + 64 - back) % 64;
-        if (back as u8) < spans[at] {
-            return at;
+    for back in 0..16 {
+        let at = row * SLOTS + (slot + 64 - back as usize) % 64;
+        if back < spans[at] {
+            return Some(at);
         }
-        back += 1;
     }
-    512
+    None
 }
 
 // The links of row number k: of a path, or of its reply.
@@ -41,28 +40,20 @@ fn with_path(paths: &Paths, initiator: u8, targets: u64, links: u64, k: usize) -
     requires { k < 128 }
     ensures { (l : ℕ) → member l result ≡ (member l links || leads_over paths.now initiator targets l k) }
 {
-    if paths[k * PATH] != initiator {
+    if paths[k * PATH] != initiator || !bitsets::has(targets, paths[k * PATH + PATH_TARGET]) {
         return links;
     }
-    if bitsets::has(targets, paths[k * PATH + PATH_TARGET]) {
-        let ways = bitsets::union(path_links(paths, k), path_links(paths, REPLIES + k));
-        return bitsets::union(links, ways);
-    }
-    links
+    let ways = bitsets::union(path_links(paths, k), path_links(paths, REPLIES + k));
+    bitsets::union(links, ways)
 }
 
 // The links that transactions of the initiator with one of the targets use.
 fn links_to(paths: &Paths, count: u32, initiator: u8, targets: u64) -> u64
     ensures { (l : ℕ) → member l result ≡ any_below (min 128 count) (leads_over paths.now initiator targets l) }
 {
-    let mut links: u64 = 0;
-    let mut k: usize = 0;
-    while k < 128 {
-        if k as u32 >= count {
-            return links;
-        }
+    let mut links = 0;
+    for k in 0..at_most(count, MOST_PATHS) {
         links = with_path(paths, initiator, targets, links, k);
-        k += 1;
     }
     links
 }
@@ -81,11 +72,10 @@ fn links_in(
     ensures { (p : Plan) → Searched p rows.now paths.now spans.now aims.now numbers.now →
         result ≡ lane_of p slot row }
 {
-    let at = covering(spans, row, slot);
-    if at < 512 {
-        return links_to(paths, numbers[PATHS], rows[row], aims[at]);
-    }
-    0
+    let Some(at) = covering(spans, row, slot) else {
+        return 0;
+    };
+    links_to(paths, numbers[PATHS], rows[row], aims[at])
 }
 
 // The same of each row, at its place.
@@ -101,11 +91,9 @@ pub fn lanes_in(
     ensures { (p : Plan) → Searched p rows.now paths.now spans.now aims.now numbers.now →
         result ≡ lanes_of p slot }
 {
-    let mut lanes = [0u64; 8];
-    let mut row: usize = 0;
-    while row < ROWS {
+    let mut lanes = [0; 8];
+    for row in 0..ROWS {
         lanes[row] = links_in(rows, paths, spans, aims, numbers, row, slot);
-        row += 1;
     }
     lanes
 }

@@ -2,11 +2,11 @@
 use mathlib.Core.Path.{◌≡◌, refl, sym, ap, ◌∙◌}
 use mathlib.Core.List.{List, [], ◌∷◌}
 use mathlib.Core.Bool.{Bool, true, false, ◌&&◌, ◌||◌, and-false}
-use Prim.Native.Nat.{ℕ, zero, suc, ◌+◌, ◌-◌, ◌*◌, ◌^◌, ◌≤◌, ◌<◌}
+use Prim.Native.Nat.{ℕ, zero, suc, ◌+◌, ◌-◌, ◌*◌, ◌^◌, ◌<◌}
 use native.Mathlib.Numerals.{add-one}
 use native.Mathlib.Omega.{arith}
 use lib.ListN.{length, get_or, set, take}
-use lib.Seq.{take-suc, take_all}
+use lib.Seq.{take-suc}
 use lib.Dec.{leb, eqb}
 use borrow.Author.Tests.{ltb-false, leb-true, le-leb, eqb-true, eq-eqb}
 use Rattle.lists.specs.Search.{any, is_in}
@@ -58,6 +58,3 @@ module _ (row slot : ℕ) (ts : List ℕ) (before : List ℕ) where
   targets_next k after h m at word is l small w =
       marked-same slot before (set after at word) (λ n. ap (λ (z : ℕ). is_target row (take k ts) n || eqb n z) is ∙ one_more k h n)
       (marked-both slot before after (set after at word) m (marked-one slot after at word l small w))
-
-  pub targets-done : (k : ℕ) (after : List ℕ) → length ts ≤ k → Marked (is_target row (take k ts)) slot before after → Marked (is_target row ts) slot before after
-  targets-done k after h m = marked-same slot before after (λ n. ap (λ (xs : List ℕ). is_target row xs n) (take_all k ts h)) m

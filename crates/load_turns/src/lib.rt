@@ -14,11 +14,9 @@ fn mark_targets(aims: &mut Aims, row: usize, slot: u8, targets: &[u8])
     requires { (row < 8) × (any over63 targets.now ≡ false) }
     ensures { length aims.old ≡ 1_152 → Marked (is_target row targets.now) slot aims.old aims.new }
 {
-    let mut n = 0;
-    while n < targets.len() {
-        let at = TURNS + (row * SLOTS + targets[n] as usize);
+    for target in targets {
+        let at = TURNS + (row * SLOTS + *target as usize);
         aims[at] = add(aims[at], slot);
-        n += 1;
     }
 }
 
@@ -27,11 +25,9 @@ fn mark_span(aims: &mut Aims, row: usize, slot: u8, span: u8)
     requires { (row < 8) × (span ≤ 16) }
     ensures { length aims.old ≡ 1_152 → Marked (is_span row span) slot aims.old aims.new }
 {
-    let mut k = 0;
-    while k < span as usize {
+    for k in 0..span as usize {
         let at = LONG + (row * LONGEST + k);
         aims[at] = add(aims[at], slot);
-        k += 1;
     }
 }
 

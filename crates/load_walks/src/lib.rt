@@ -16,6 +16,7 @@ use memory_plan::layout::*;
 
 // What one pass over the links of a path tells: whether one is over 63, and, where none is, their set; and, where all are links of the plan,
 // whether they are a walk.
+// Kept: the new form is no plainer: between a link over 63 (6) and a walk (10) stand rows 7 to 9, which need the set.
 #[derive(Drop)]
 pub struct Traced {
     pub over: bool,
@@ -39,13 +40,9 @@ fn arrived(sets: &Sets, start: u8, end: u8, here: u64, met: u64, broken: u64) ->
     ensures { (broken ≢ 0 → result ≡ false) × (broken ≡ 0 → (xs : List ℕ) → ((x : ℕ) → Memᴰ x xs → x < 64) → ((k : ℕ) → member k met ≡ listed xs k) →
         result ≡ (member end here && all (λ (x : ℕ). eqb x start || (eqb x end || member x (nth sets.now 1))) xs)) }
 {
-    if broken != 0 {
-        return false;
-    }
-    if !bitsets::has(here, end) {
-        return false;
-    }
-    bitsets::within(met, bitsets::add(bitsets::add(sets[ROUTERS], end), start))
+    broken == 0
+        && bitsets::has(here, end)
+        && bitsets::within(met, bitsets::add(bitsets::add(sets[ROUTERS], end), start))
 }
 
 // Goes over the links: here is the device reached, alone. A link takes its two devices out of that set or puts them in, so that the other
@@ -62,15 +59,12 @@ pub fn trace(sets: &Sets, ends: &Ends, start: u8, links: &[u8], end: u8) -> Trac
     let mut here = bit_of(start);
     let mut met = here;
     let mut broken: u64 = 0;
-    let mut k = 0;
-    while k < links.len() {
-        let l = links[k];
-        over = over | l;
-        set = bit_of(l) | set;
-        here = here ^ joined(ends, l);
-        broken = broken | (met & here);
-        met = here | met;
-        k += 1;
+    for &link in links {
+        over |= link;
+        set |= bit_of(link);
+        here ^= joined(ends, link);
+        broken |= met & here;
+        met |= here;
     }
     Traced {
         over: 63 < over,

@@ -14,29 +14,25 @@ use crate::layout::*;
 pub fn span_at(spans: &Spans, row: usize, slot: u8) -> u8
     ensures { (p : Plan) → Sound p → spans.now ≡ spans_of p → result ≡ of_row p row (λ (i : ℕ). span_of (entry_at p.entries i slot)) }
 {
-    if ROWS <= row {
-        return 0;
-    }
-    if 64 <= slot {
+    if ROWS <= row || 64 <= slot {
         return 0;
     }
     spans[row * SLOTS + slot as usize]
 }
 
 // The set of its targets, empty where none stands there.
+// Kept: the new form is no plainer (one generic read of a cell needs a bound for the 0 and a contract of both tellings).
 pub fn targets_at(aims: &Aims, row: usize, slot: u8) -> u64
     ensures { (p : Plan) → Sound p → aims.now ≡ aims_of p → result ≡ of_row p row (λ (i : ℕ). aim_of (entry_at p.entries i slot)) }
 {
-    if ROWS <= row {
-        return 0;
-    }
-    if 64 <= slot {
+    if ROWS <= row || 64 <= slot {
         return 0;
     }
     aims[row * SLOTS + slot as usize]
 }
 
 // The least span of a transaction that fits none.
+// Kept: the new form is no plainer (permits, lasting and the line compare a need with spans of 16 at most; an Option would be taken apart at each).
 const NO_SPAN: u8 = 17;
 
 // The least span that a transaction with this many data bytes fits in a plan that carries no times: "with 256 × span at least the length".
@@ -105,8 +101,5 @@ pub fn least_span(numbers: &Numbers, row: usize, target: u8, length: u16) -> u8
 pub fn permits(targets: u64, span: u8, target: u8, need: u8) -> bool
     ensures { result ≡ (member target targets && leb need span) }
 {
-    if bitsets::has(targets, target) {
-        return need <= span;
-    }
-    false
+    bitsets::has(targets, target) && need <= span
 }

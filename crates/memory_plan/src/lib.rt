@@ -7,8 +7,7 @@ ghost use Rattle.std.specs.Prelude.{◌≡◌, min};
 pub fn at_most(count: u32, places: usize) -> usize
     ensures { result ≡ min count places }
 {
-    let n = count as usize;
-    if n < places { n } else { places }
+    places.min(count as usize)
 }
 
 pub mod entry;

@@ -2,7 +2,7 @@
 use Rattle.std.specs.Prelude.{◌≡◌, ℕ, List, length}
 use Rattle.memory_plan.specs.View.{Shown}
 use Rattle.rules_box.specs.declared.Event.{Event}
-use Rattle.rules_box.specs.declared.Answer.{Answer}
+use Rattle.rules_box.specs.Answer.{Answer}
 use Rattle.rules_box.specs.declared.Watchdog.{Watchdog}
 use Rattle.rules_box.specs.State.{Box}
 use Rattle.rules_box.specs.Records.{recorded}

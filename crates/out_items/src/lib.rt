@@ -49,20 +49,13 @@ pub fn put_links(out: &mut [u8], at: usize, links: u64, ends: &Ends) -> usize
 fn put_two(out: &mut [u8], at: usize, n: u16) -> usize
     ensures { Puts out.old at (two_bytes n) out.new result }
 {
-    let first = (n / 256) as u8;
-    let second = (n % 256) as u8;
-    let two = [first, second];
-    put(out, at, &two)
+    put(out, at, &n.to_be_bytes())
 }
 
 fn put_four(out: &mut [u8], at: usize, n: u32) -> usize
     ensures { Puts out.old at (four_bytes n) out.new result }
 {
-    let first = (n / 16_777_216) as u8;
-    let second = (n / 65_536 % 256) as u8;
-    let third = (n / 256 % 256) as u8;
-    let fourth = (n % 256) as u8;
-    let four = [first, second, third, fourth];
+    let four = n.to_be_bytes();
     put(out, at, &four)
 }
 

@@ -3,10 +3,9 @@
 use Rattle.std.specs.Prelude.{◌≡◌, ℕ, ◌*◌, min, length}
 use mathlib.Core.List.{List, ◌++◌, flat_map}
 use Rattle.std.proofs.Math.Option.{Option}
-use Rattle.rules_plan.specs.declared.Copied.{Copied}
 use Rattle.lists.specs.Search.{up_from, below64}
 use Rattle.rules_plan.specs.Plan.{nth, Plan}
-use Rattle.rules_plan.specs.Copy.{copy_answer, copied}
+use Rattle.rules_plan.specs.Copy.{Copied, copy_answer, copied}
 use Rattle.memory_plan.specs.PlanHeld.{PlanHeld}
 use Rattle.out_items.specs.Out.{device_bytes, link_bytes, timing_bytes, times_bytes}
 use Rattle.out_rows.specs.Out.{row_bytes, entry_bytes}

@@ -1,4 +1,5 @@
 // Writing out: the plan in memory as a file again, its fields in canonical order, in a lent buffer.
+ghost use Rattle.rules_plan.specs.Copy.{copied_told};
 ghost use Rattle.out_plan.specs.Out.{WritesOut};
 
 use memory_plan::at_most;
@@ -6,7 +7,7 @@ use memory_plan::interval::is_loaded;
 use memory_plan::layout::*;
 use out_items::{put_devices, put_links, put_times, put_timing};
 use out_rows::{put_entries, put_paths};
-use rules_plan::Copied;
+use rules_plan::Refusal;
 
 // "Writing out answers 0 and the size; room beyond it keeps its bytes."
 pub fn write_out(
@@ -18,16 +19,16 @@ pub fn write_out(
     aims: &Aims,
     numbers: &Numbers,
     out: &mut [u8],
-) -> Copied
-    ensures { WritesOut sets.now ends.now rows.now paths.now spans.now aims.now numbers.now out.old result out.new }
+) -> Result<u16, Refusal>
+    ensures { WritesOut sets.now ends.now rows.now paths.now spans.now aims.now numbers.now out.old (copied_told result) out.new }
 {
     if !is_loaded(numbers) {
-        return Copied::NotWritten { number: 20 };
+        return Err(Refusal::NoPlan);
     }
     // A plan is as long as its file, and that has at most 16,384 bytes.
     let size = (numbers[SIZE] % 65_536) as u16;
     if out.len() < size as usize {
-        return Copied::NotWritten { number: 30 };
+        return Err(Refusal::SmallRoom);
     }
     let devices = put_devices(out, 0, sets[NODES], sets[ROUTERS]);
     let links = put_links(out, devices, sets[LINKS], ends);
@@ -44,5 +45,5 @@ pub fn write_out(
     let timing = put_timing(out, entries, numbers[LEAST], numbers[GREATEST]);
     let times = put_times(out, timing, numbers);
     put_paths(out, times, paths, 7, REPLIES, count);
-    Copied::Written { size }
+    Ok(size)
 }

@@ -6,7 +6,6 @@ use Prim.Native.Nat.{ℕ, ◌+◌, ◌*◌, ◌/◌, ◌%◌, ◌^◌, ◌≤◌
 use native.Mathlib.Nat.{zero-div}
 use native.Mathlib.Omega.{arith}
 use lib.Bits.{bit_or, or_lt}
-use lib.ListN.{length}
 use lib.Pow.{shl_exact, shl-shr}
 use borrow.Author.Count.{below_more}
 use borrow.Author.Tests.{eq-eqb}
@@ -15,7 +14,7 @@ use Rattle.lists.specs.Puts.{Puts}
 use Rattle.lists.specs.laws.Bools.{neither}
 use Rattle.lists.specs.laws.Search.{up_from-range}
 use Rattle.lists.specs.laws.Flat.{flat-none, flat_rows}
-use Rattle.lists.specs.laws.Puts.{puts_none, Turns, turns-begin, turns_next, turns-done}
+use Rattle.lists.specs.laws.Puts.{puts_none, Turns, turns-done}
 use Rattle.bitsets.specs.Set.{member}
 use Rattle.bitsets.specs.Laws.{member-empty, member-or, no-members}
 use Rattle.rules_plan.specs.Plan.{nth}
@@ -61,28 +60,10 @@ module _ (rows spans aims : List ℕ) where
   no-entries l i n e =
       rw (flat-none (λ s. entry_bytes rows spans aims (n + s)) (up_from 8 0) (λ s m. rw (eq-eqb (nth spans (n + s)) 0 (e s (omega (arith, up_from-range 8 0 s m)))))) (puts_none l i)
 
-  -- the entries of the first n cells are put: n and the number of all cells are multiples of eight
-  pub record Eights (cells : ℕ) (l : List ℕ) (i : ℕ) (o : List ℕ) (k n : ℕ) : Type 0 where
-    pub whole : (cells % 8 ≡ 0) × (n % 8 ≡ 0)
-    pub turns : Turns (λ (r : ℕ). eight_bytes rows spans aims (8 * r)) (cells / 8) l i o k (n / 8)
-
-  pub eights-begin : (cells : ℕ) → cells % 8 ≡ 0 → (l : List ℕ) (i : ℕ) → Eights cells l i l i 0
-  eights-begin cells e l i = record { whole = (e, omega arith); turns = turns-begin (λ r. eight_bytes rows spans aims (8 * r)) (cells / 8) l i }
-
-  module _ {cells : ℕ} {l o : List ℕ} {i k n : ℕ} (a : Eights cells l i o k n) where
-    pub eights-next : n < cells → {p : List ℕ} {m : ℕ} → length p ≡ length o → Puts o k (eight_bytes rows spans aims n) p m → Eights cells l i p m (n + 8)
-    eights-next h {p} {m} same puts =
-        let w = a.whole in
-        let here : 8 * (n / 8) ≡ n = omega (arith, w.1) in
-        let next : (n + 8) / 8 ≡ n / 8 + 1 = omega arith in
-        record {
-          whole = (w.0, omega (arith, w.1));
-          turns = rw next (turns_next a.turns (omega (arith, w.0, w.1)) same (rw here puts));
-        }
-
-    pub eights-done : cells ≤ n → Puts l i (flat_map (entry_bytes rows spans aims) (up_from cells 0)) o k
-    unfolding eight_bytes
-    eights-done h =
-        let w = a.whole in
-        let all : 8 * (cells / 8) ≡ cells = omega (arith, w.0) in
-        rw (← all, flat_rows (entry_bytes rows spans aims) 8 (cells / 8)) (turns-done a.turns (omega arith))
+  -- the entries of every eight are put: those of all cells, where their number is a multiple of eight
+  pub eights-done : (cells : ℕ) {l o : List ℕ} {i k n : ℕ} → cells % 8 ≡ 0 → Turns (λ (r : ℕ). eight_bytes rows spans aims (8 * r)) (cells / 8) l i o k n → cells / 8 ≤ n
+      → Puts l i (flat_map (entry_bytes rows spans aims) (up_from cells 0)) o k
+  unfolding eight_bytes
+  eights-done cells e a h =
+      let all : 8 * (cells / 8) ≡ cells = omega (arith, e) in
+      rw (← all, flat_rows (entry_bytes rows spans aims) 8 (cells / 8)) (turns-done a h)

@@ -47,7 +47,7 @@ module _ (paths : List ℕ) where
     pub links-more : Put l i (links_from paths start (j + 1)) (set o (i + j) (nth paths (start + j))) (i + (j + 1))
     links-more = let e : i + (j + 1) ≡ i + j + 1 = omega arith in rw (e, add-one j, links-suc j start) (put_then f (put_one o (i + j) (nth paths (start + j))))
 
-    pub links-all : (count : ℕ) → j ≡ count → Put l i (links_from paths start count) o (i + j)
+    pub links-all : (count : ℕ) → j ≡ count → Put l i (links_from paths start count) o (i + count)
     links-all count e = rw (← e) f
 
   module _ (tag n : ℕ) where

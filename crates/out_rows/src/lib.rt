@@ -15,20 +15,19 @@ use bytes_get::wide;
 use bytes_put::put_bytes;
 use memory_plan::layout::*;
 
-// The links from a place of memory on, count of them. The loop says too that they are at most eight: the compiler then makes no loop for long copies.
+// The links from a place of memory on, count of them.
+// Kept: no copy of a slice, but a loop that says that they are at most eight: the compiler then makes no loop for long copies (speed).
 fn put_path_links(out: &mut [u8], at: usize, paths: &Paths, start: usize, count: usize) -> usize
     requires { (count ≤ 8) × (start + count ≤ 2816) × (at + count ≤ length out.old) }
     ensures { Put out.old at (links_from paths.now start count) out.new result }
 {
-    let mut i = 0;
-    while i < MOST_LINKS {
+    for i in 0..MOST_LINKS {
         if count <= i {
-            return at + i;
+            return at + count;
         }
         out[at + i] = paths[start + i];
-        i += 1;
     }
-    at + i
+    at + count
 }
 
 // The route of row n under a tag, where it has one to eight links: in no row of a plan are there more, and a row without is of no reply.
@@ -38,18 +37,12 @@ fn put_path(out: &mut [u8], at: usize, paths: &Paths, tag: u8, n: usize) -> usiz
 {
     let row = PATH * n;
     let count = wide(paths[row + PATH_COUNT]);
-    if count == 0 {
-        return at;
-    }
-    if MOST_LINKS < count {
+    if count == 0 || MOST_LINKS < count {
         return at;
     }
     let whole = 5 + count;
     let room = out.len();
-    if room < whole {
-        return at;
-    }
-    if room - whole < at {
+    if room < whole || room - whole < at {
         return at;
     }
     // At most ten bytes: their number has no high byte.
@@ -73,10 +66,8 @@ pub fn put_paths(
     ensures { Puts out.old at (flat_map (row_bytes tag paths.now first) (up_from rows 0)) out.new result }
 {
     let mut k = at;
-    let mut n = 0;
-    while n < rows {
+    for n in 0..rows {
         k = put_path(out, k, paths, tag, first + n);
-        n += 1;
     }
     k
 }
@@ -110,10 +101,7 @@ fn put_entry(out: &mut [u8], at: usize, rows: &Rows, spans: &Spans, aims: &Aims,
     let members = size(aim);
     let whole = 6 + members as usize;
     let room = out.len();
-    if room < whole {
-        return at;
-    }
-    if room - whole < at {
+    if room < whole || room - whole < at {
         return at;
     }
     // At most 67 bytes: their number has no high byte.
@@ -131,10 +119,8 @@ fn no_span(spans: &Spans, n: usize) -> bool
     ensures { result ≡ true → (s : ℕ) → s < 8 → nth spans.now (n + s) ≡ 0 }
 {
     let mut word: u64 = 0;
-    let mut j = 0;
-    while j < 8 {
-        word = word | (wide(spans[n + j]) as u64) << (8 * j);
-        j += 1;
+    for j in 0..8 {
+        word |= (wide(spans[n + j]) as u64) << (8 * j);
     }
     word == 0
 }
@@ -148,10 +134,8 @@ fn put_eight(out: &mut [u8], at: usize, rows: &Rows, spans: &Spans, aims: &Aims,
         return at;
     }
     let mut k = at;
-    let mut j = n;
-    while j < n + 8 {
+    for j in n..n + 8 {
         k = put_entry(out, k, rows, spans, aims, j);
-        j += 1;
     }
     k
 }
@@ -169,10 +153,8 @@ pub fn put_entries(
     ensures { Puts out.old at (flat_map (entry_bytes rows.now spans.now aims.now) (up_from cells 0)) out.new result }
 {
     let mut k = at;
-    let mut n = 0;
-    while n < cells {
-        k = put_eight(out, k, rows, spans, aims, n);
-        n += 8;
+    for eight in 0..cells / 8 {
+        k = put_eight(out, k, rows, spans, aims, 8 * eight);
     }
     k
 }

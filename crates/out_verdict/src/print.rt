@@ -11,8 +11,8 @@ fn put_number(out: &mut [u8], at: usize, n: u16) -> usize
     requires { at + 6 ≤ length out.old }
     ensures { Put out.old at (spaced n) out.new result × (result ≤ at + 6) }
 {
-    out[at] = 32;
-    put_decimal(out, at + 1, n as u64)
+    out[at] = b' ';
+    put_decimal(out, at + 1, u64::from(n))
 }
 
 // Each of the numbers, a space before it.
@@ -21,10 +21,8 @@ fn put_numbers(out: &mut [u8], at: usize, ns: &[u16]) -> usize
     ensures { Put out.old at (numbers ns.now) out.new result × (result ≤ at + 6 * length ns.now) }
 {
     let mut k = at;
-    let mut i = 0;
-    while i < ns.len() {
-        k = put_number(out, k, ns[i]);
-        i += 1;
+    for n in ns {
+        k = put_number(out, k, *n);
     }
     k
 }

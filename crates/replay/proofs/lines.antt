@@ -1,3 +1,2 @@
 -- Laws of lines in a buffer.
 pub mod Scans
-pub mod Shifts

@@ -1,19 +1,18 @@
 // Lines in a buffer of bytes.
 ghost use Rattle.std.specs.Prelude.{◌≡◌, ◌-◌, ◌≤◌, length};
+ghost use Rattle.lists.specs.Options.{if_below};
 ghost use Rattle.replay.specs.Lines.{line_end, shifted};
 
-// Where the line that begins at a place ends: the place of its newline, or the end of the bytes.
-pub fn find_newline(s: &[u8], from: usize) -> usize
-    ensures { result ≡ line_end s.now from }
+// The place of the newline that ends the line which begins at a place, where it is there.
+pub fn find_newline(s: &[u8], from: usize) -> Option<usize>
+    ensures { result ≡ if_below (length s.now) (line_end s.now from) }
 {
-    let mut i = from;
-    while i < s.len() {
+    for i in from..s.len() {
         if s[i] == b'\n' {
-            return i;
+            return Some(i);
         }
-        i += 1;
     }
-    i
+    None
 }
 
 // Moves the bytes from a place up to another to the front, and answers how many they are; what stands behind these stays.
@@ -21,11 +20,6 @@ pub fn shift(s: &mut [u8], from: usize, to: usize) -> usize
     requires { (from ≤ to) × (to ≤ length s.old) }
     ensures { (result ≡ to - from) × (s.new ≡ shifted from to s.old) }
 {
-    let n = to - from;
-    let mut i = 0;
-    while i < n {
-        s[i] = s[from + i];
-        i += 1;
-    }
-    n
+    s.copy_within(from..to, 0);
+    to - from
 }

@@ -2,46 +2,34 @@
 // Answers are written before more input is waited for. A read or a write that fails is said on standard error, after the answers so far.
 #![tactic(auto)]
 
-ghost use Rattle.std.specs.Prelude.{◌≡◌, ◌≤◌, length, replicate};
-ghost use Rattle.box_calls.specs.Calls.{lent_in, left_in};
+ghost use Rattle.std.specs.Prelude.{◌≡◌, ◌≤◌, length, replicate, MatchResult};
+ghost use Rattle.box_calls.specs.Owned.{memory_of};
 ghost use Rattle.replay.specs.Gather.{stand, Taken};
-ghost use Rattle.replay.specs.Rounds.{Brings, Finishes, Serves};
+ghost use Rattle.replay.specs.Rounds.{Brings, Finishes, outcome, Serves};
 
 use answers::{Desk, Output, Text, answer_lines, end_line, flush, pass_over};
+use box_calls::memory::BoxMemory;
 use lines::shift;
-use memory_plan::layout::*;
-use memory_run::layout::*;
 use rules_box::Watchdog;
+use std::io;
 use std::io::{Read, Stderr, Stdin, Stdout, Write};
 
 mod answers;
 mod lines;
 
-// How much of the input buffer is filled, and whether the input ended or a read failed.
+// What ends the program early.
 #[derive(Clone, Copy)]
-struct Input {
-    len: usize,
-    ended: bool,
-    failed: bool,
+enum Failure {
+    Read,
+    Write,
 }
 
-// Reads behind the bytes that are there; a read may bring fewer bytes than there is room for.
-fn read_more(mut from: Stdin, input: &mut [u8], len: usize) -> Input
+// How many bytes a read brings behind those that are there: it may be fewer than there is room for, and is 0 at the end of the input.
+fn read_more(mut from: Stdin, input: &mut [u8], len: usize) -> io::Result<usize>
     requires { len ≤ length input.old }
-    ensures { Brings input.old len input.new result }
+    ensures { MatchResult result (λ k. Brings input.old len input.new k) (λ _. Brings input.old len input.new 0) }
 {
-    match from.read(&mut input[len..]) {
-        Ok(k) => Input {
-            len: len + k,
-            ended: k == 0,
-            failed: false,
-        },
-        Err(_) => Input {
-            len,
-            ended: true,
-            failed: true,
-        },
-    }
+    from.read(&mut input[len..])
 }
 
 // Room for the input, for an answer, and for the answers gathered: two of the longest; all 0.
@@ -63,118 +51,60 @@ fn output_room() -> Output
     [0; 131200]
 }
 
-// How many bytes are left of the input.
-#[derive(Clone, Copy)]
-struct Left {
-    len: usize,
-    desk: Desk,
-}
-
-// The lines that the input has so far; what is left begins at the front of the buffer. A line that fills the buffer is passed over.
+// The lines that the input has so far; what is left begins at the front of the buffer, and the answer is how many bytes it is. A line that
+// fills the buffer is passed over.
 fn take_lines(
     to: Stdout,
     input: &mut [u8],
     len: usize,
-    sets: &mut Sets,
-    ends: &mut Ends,
-    rows: &mut Rows,
-    reach: &mut Reach,
-    paths: &mut Paths,
-    spans: &mut Spans,
-    aims: &mut Aims,
-    numbers: &mut Numbers,
-    run: &mut Run,
-    last: &mut Last,
-    desk: Desk,
+    m: &mut BoxMemory,
+    d: &mut Desk,
     text: &mut Text,
     out: &mut Output,
-) -> Left
+) -> usize
     requires { len ≤ length input.old }
-    ensures { Taken input.old len (stand desk (lent_in sets ends rows reach paths spans aims numbers run last) text.old out.old) input.new result.len (stand result.desk (left_in sets ends rows reach paths spans aims numbers run last) text.new out.new) }
+    ensures { Taken input.old len (stand d.old (memory_of m.old) text.old out.old) input.new result (stand d.new (memory_of m.new) text.new out.new) }
 {
-    let rest = answer_lines(
-        to,
-        &input[..len],
-        sets,
-        ends,
-        rows,
-        reach,
-        paths,
-        spans,
-        aims,
-        numbers,
-        run,
-        last,
-        desk,
-        text,
-        out,
-    );
-    let start = rest.start;
-    let d = rest.desk;
+    let start = answer_lines(to, &input[..len], m, d, text, out);
     let left = shift(input, start, len);
     if left < input.len() {
-        return Left { len: left, desk: d };
+        return left;
     }
-    let passed = pass_over(to, input, d, text, out);
-    Left {
-        len: 0,
-        desk: passed,
-    }
+    pass_over(to, input, d, text, out);
+    0
 }
 
 // The end of the input: a last line may lack its newline.
 fn finish(
     to: Stdout,
     line: &[u8],
-    sets: &mut Sets,
-    ends: &mut Ends,
-    rows: &mut Rows,
-    reach: &mut Reach,
-    paths: &mut Paths,
-    spans: &mut Spans,
-    aims: &mut Aims,
-    numbers: &mut Numbers,
-    run: &mut Run,
-    last: &mut Last,
-    d: Desk,
+    m: &mut BoxMemory,
+    d: &mut Desk,
     text: &mut Text,
     out: &mut Output,
-) -> Desk
-    ensures { Finishes line.now (stand d (lent_in sets ends rows reach paths spans aims numbers run last) text.old out.old) (stand result (left_in sets ends rows reach paths spans aims numbers run last) text.new out.new) }
+)
+    ensures { Finishes line.now (stand d.old (memory_of m.old) text.old out.old) (stand d.new (memory_of m.new) text.new out.new) }
 {
-    if line.len() == 0 {
-        return flush(to, d, out);
+    if line.len() > 0 {
+        end_line(to, line, m, d, text, out);
     }
-    let ended = end_line(
-        to, line, sets, ends, rows, reach, paths, spans, aims, numbers, run, last, d, text, out,
-    );
-    flush(to, ended, out)
+    flush(to, d, out);
 }
 
-// What is left where the program ends, and whether it ends with input that could not be read.
-#[derive(Clone, Copy)]
-struct End {
-    desk: Desk,
-    unread: bool,
+// Whether every answer so far was written.
+fn written(d: &Desk) -> Result<(), Failure>
+    ensures { result ≡ outcome d.now.failed }
+{
+    if d.failed {
+        Err(Failure::Write)
+    } else {
+        Ok(())
+    }
 }
 
 // Reads and answers until the input ends or fails, or a write fails. The turns are counted only so that the loop is seen to end.
-fn serve(
-    from: Stdin,
-    to: Stdout,
-    sets: &mut Sets,
-    ends: &mut Ends,
-    rows: &mut Rows,
-    reach: &mut Reach,
-    paths: &mut Paths,
-    spans: &mut Spans,
-    aims: &mut Aims,
-    numbers: &mut Numbers,
-    run: &mut Run,
-    last: &mut Last,
-    cleared: Watchdog,
-) -> End
-    ensures { Serves (lent_in sets ends rows reach paths spans aims numbers run last) cleared result (left_in sets ends rows reach paths spans aims numbers run last) }
+fn serve(from: Stdin, to: Stdout, m: &mut BoxMemory, cleared: Watchdog) -> Result<(), Failure>
+    ensures { Serves (memory_of m.old) cleared result (memory_of m.new) }
 {
     let mut input = input_room();
     let mut text = text_room();
@@ -187,57 +117,21 @@ fn serve(
         failed: false,
     };
     let mut len = 0;
-    let mut turns: u64 = 0;
-    while turns < 18_446_744_073_709_551_615 {
-        let read = read_more(from, &mut input, len);
-        if read.failed {
-            return End {
-                desk: d,
-                unread: true,
-            };
+    for _turn in 0..u64::MAX {
+        let Ok(k) = read_more(from, &mut input, len) else {
+            return Err(Failure::Read);
+        };
+        if k == 0 {
+            finish(to, &input[..len], m, &mut d, &mut text, &mut out);
+            return written(&d);
         }
-        if read.ended {
-            let desk = finish(
-                to,
-                &input[..len],
-                sets,
-                ends,
-                rows,
-                reach,
-                paths,
-                spans,
-                aims,
-                numbers,
-                run,
-                last,
-                d,
-                &mut text,
-                &mut out,
-            );
-            return End {
-                desk,
-                unread: false,
-            };
-        }
-        let left = take_lines(
-            to, &mut input, read.len, sets, ends, rows, reach, paths, spans, aims, numbers, run,
-            last, d, &mut text, &mut out,
-        );
-        len = left.len;
-        let after = left.desk;
-        d = flush(to, after, &out);
+        len = take_lines(to, &mut input, len + k, m, &mut d, &mut text, &mut out);
+        flush(to, &mut d, &out);
         if d.failed {
-            return End {
-                desk: d,
-                unread: false,
-            };
+            return Err(Failure::Write);
         }
-        turns += 1;
     }
-    End {
-        desk: d,
-        unread: true,
-    }
+    Err(Failure::Read)
 }
 
 // Says on standard error what was not done.
@@ -247,50 +141,27 @@ fn say(mut errors: Stderr, text: &[u8]) {
 
 // "The box starts as after a clear."
 fn main(rt: HostRuntime) {
-    let mut sets = [0u64; SETS];
-    let mut ends = [0u8; ENDS];
-    let mut rows = [0u8; ROWS];
-    let mut reach = [0u64; ROWS];
-    let mut paths = [0u8; PATH_BYTES];
-    let mut spans = [0u8; CELLS];
-    let mut aims = [0u64; AIMS];
-    let mut numbers = [0u32; NUMBERS];
-    let mut run = [0u64; RUN];
-    let mut last = [0u8; LAST];
-    let cleared = box_calls::clear::clear(
-        &mut sets,
-        &mut ends,
-        &mut rows,
-        &mut reach,
-        &mut paths,
-        &mut spans,
-        &mut aims,
-        &mut numbers,
-        &mut run,
-        &mut last,
+    let mut m = BoxMemory::zeros();
+    let mut watchdog = Watchdog::default();
+    box_calls::clear::clear(
+        &mut m.plan.sets,
+        &mut m.plan.ends,
+        &mut m.plan.rows,
+        &mut m.plan.reach,
+        &mut m.plan.paths,
+        &mut m.plan.spans,
+        &mut m.plan.aims,
+        &mut m.plan.numbers,
+        &mut m.run,
+        &mut m.last,
+        &mut watchdog,
     );
-    let end = serve(
-        rt.stdin(),
-        rt.stdout(),
-        &mut sets,
-        &mut ends,
-        &mut rows,
-        &mut reach,
-        &mut paths,
-        &mut spans,
-        &mut aims,
-        &mut numbers,
-        &mut run,
-        &mut last,
-        cleared,
-    );
-    if end.unread {
-        say(rt.stderr(), b"replay: standard input could not be read\n");
-    }
-    if end.desk.failed {
-        say(
+    match serve(rt.stdin(), rt.stdout(), &mut m, watchdog) {
+        Ok(()) => {}
+        Err(Failure::Read) => say(rt.stderr(), b"replay: standard input could not be read\n"),
+        Err(Failure::Write) => say(
             rt.stderr(),
             b"replay: standard output could not be written\n",
-        );
+        ),
     }
 }

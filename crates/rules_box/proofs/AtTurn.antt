@@ -15,10 +15,9 @@ use Rattle.lists.specs.Search.{is_some}
 use Rattle.lists.specs.laws.Bools.{both_true, not-both, none-some, some-some}
 use Rattle.lists.specs.laws.Rows.{rise, no_row}
 use Rattle.lists.specs.laws.Place.{first_some_lem}
-use Rattle.rules_plan.specs.declared.Next.TheVariants.{Turn}
 use Rattle.rules_plan.specs.Plan.{Plan}
 use Rattle.rules_plan.specs.Meaning.{is_initiator, may_start}
-use Rattle.rules_plan.specs.Next.{is_turn, slot_after, next_turn, next_answer}
+use Rattle.rules_plan.specs.Next.{Turn, is_turn, slot_after, next_turn, next_answer}
 use Rattle.rules_plan.specs.Promises.{AcceptedIsSound}
 use Rattle.rules_plan.specs.laws.Turns.{turn_at, turn_low, some_turn, next-finds, next-now, next-on, next-answered}
 use Rattle.rules_box.specs.declared.Event.{Event}

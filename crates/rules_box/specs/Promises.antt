@@ -6,16 +6,14 @@ use Rattle.std.proofs.Math.Option.{Option, none, some}
 use Rattle.lists.specs.Search.{keep}
 use Rattle.lists.specs.Place.{at_place}
 use Rattle.lists.specs.Order.{Rising}
-use Rattle.rules_plan.specs.declared.Next.TheVariants.{Turn}
 use Rattle.rules_plan.specs.Plan.{Plan, Entry}
 use Rattle.rules_plan.specs.Meaning.{uses, permits}
-use Rattle.rules_plan.specs.Next.{slot_after, next_answer}
+use Rattle.rules_plan.specs.Next.{Turn, slot_after, next_answer}
 use Rattle.rules_plan.specs.Verdict.{number}
 use Rattle.rules_plan.specs.Judge.{judge}
 use Rattle.rules_box.specs.declared.Event.{Event}
 use Rattle.rules_box.specs.declared.Event.TheVariants.{TimeCode, Request, Reply, Reading}
-use Rattle.rules_box.specs.declared.Answer.{Answer}
-use Rattle.rules_box.specs.declared.Answer.TheVariants.{Refused, Ended, Told}
+use Rattle.rules_box.specs.Answer.{Answer, Refused, Ended, Told}
 use Rattle.rules_box.specs.declared.Watchdog.{Watchdog}
 use Rattle.rules_box.specs.State as state
 use Rattle.rules_box.specs.State.{Box, Side, Live, cleared, loaded, watchdog_cleared, watchdog_loaded, no_plan, the_plan}

@@ -2,20 +2,15 @@
 use Rattle.std.specs.Prelude.{ℕ, ◌≡◌}
 use Prim.Native.String.{String}
 use mathlib.Core.List.{List, [], ◌∷◌, ◌++◌, map, flat_map}
-use Rattle.rules_plan.specs.declared.Sheet.{Sheet}
-use Rattle.rules_plan.specs.declared.Sheet.TheVariants.{NoSheet, Terms}
-use Rattle.rules_plan.specs.declared.Next.{Next}
-use Rattle.rules_plan.specs.declared.Next.TheVariants.{NoTurn, Turn}
 use Rattle.rules_plan.specs.Plan.{Times, Item, device, link, path, entry, timing, times, reply}
 use Rattle.rules_plan.specs.Fields.{field_for}
-use Rattle.rules_plan.specs.Sheet.{sheet_answer}
-use Rattle.rules_plan.specs.Next.{next_answer}
+use Rattle.rules_plan.specs.Sheet.{sheet_answer, Sheet, NoSheet, Terms}
+use Rattle.rules_plan.specs.Next.{Next, NoTurn, Turn, next_answer}
 use Rattle.rules_plan.specs.Judge.{judge}
 use Rattle.rules_plan.specs.Print.{text, line}
 use Rattle.rules_box.specs.declared.Event.{Event}
 use Rattle.rules_box.specs.declared.Event.TheVariants.{TimeCode, Request, Reply}
-use Rattle.rules_box.specs.declared.Answer.{Answer}
-use Rattle.rules_box.specs.declared.Answer.TheVariants.{Refused, Recorded, Joined}
+use Rattle.rules_box.specs.Answer.{Answer, Refused, Recorded, Joined}
 use Rattle.rules_box.specs.declared.Watchdog.{Watchdog}
 use Rattle.rules_box.specs.State.{Box, loaded, watchdog_loaded}
 use Rattle.rules_box.specs.Records.{record_bytes}

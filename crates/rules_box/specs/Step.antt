@@ -3,8 +3,7 @@ use Rattle.std.specs.Prelude.{ℕ, List, [], true, false, cond, length, eqb}
 use Rattle.std.proofs.Math.Option.{Option, none, some}
 use Rattle.rules_box.specs.declared.Event.{Event}
 use Rattle.rules_box.specs.declared.Event.TheVariants.{TimeCode, Request, Reply, Reading}
-use Rattle.rules_box.specs.declared.Answer.{Answer}
-use Rattle.rules_box.specs.declared.Answer.TheVariants.{Refused, Recorded, Joined, Ended, Told}
+use Rattle.rules_box.specs.Answer.{Answer, Refused, Recorded, Joined, Ended, Told}
 use Rattle.rules_box.specs.declared.Watchdog.{Watchdog}
 use Rattle.rules_box.specs.State.{Box, with_last, with_sides, Side, Live, the_plan}
 use Rattle.rules_box.specs.Refuse.{refusal}

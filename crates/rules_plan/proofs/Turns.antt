@@ -10,10 +10,9 @@ use borrow.Author.Tests.{ltb-false, le-ltb}
 use Rattle.lists.specs.Search.{is_some}
 use Rattle.lists.specs.laws.Bools.{not-both, never_true}
 use Rattle.lists.specs.laws.Numbers.{Finds}
-use Rattle.rules_plan.specs.declared.Next.TheVariants.{NoTurn, Turn}
 use Rattle.rules_plan.specs.Plan.{Entry, Plan}
 use Rattle.rules_plan.specs.Meaning.{is_initiator, may_start}
-use Rattle.rules_plan.specs.Next.{is_turn, slot_after, next_turn, next_answer}
+use Rattle.rules_plan.specs.Next.{NoTurn, Turn, is_turn, slot_after, next_turn, next_answer}
 use Rattle.rules_plan.specs.Promises.{TurnAt, NextIs, NextAsWorded, NoTurnAsWorded}
 use Rattle.rules_plan.specs.laws.Permitted.{permitted-short}
 use Rattle.rules_plan.specs.laws.Turns.{turn_at, turn_low, turn-starts, some_turn, next-finds, next-is, next-most, answered, next-answered}

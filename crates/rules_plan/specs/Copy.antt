@@ -1,12 +1,22 @@
 -- Writing out, of a box that holds a plan or none: the refusals, the answer, and the buffer afterwards.
-use Rattle.std.specs.Prelude.{ℕ, List, [], ◌∷◌, ◌++◌, true, false, not, length, drop, ltb, eqb}
+use Rattle.std.specs.Prelude.{ℕ, List, [], ◌∷◌, ◌++◌, true, false, not, length, drop, ltb, eqb, Result, Ok, Err}
 use Rattle.std.proofs.Math.Option.{Option, get_or}
 use Rattle.lists.specs.Search.{is_some}
 use Rattle.lists.specs.Rows.{Row, first_of}
-use Rattle.rules_plan.specs.declared.Copied.{Copied}
-use Rattle.rules_plan.specs.declared.Copied.TheVariants.{NotWritten, Written}
+use Rattle.rules_plan.specs.declared.Refusal.{Refusal}
+use Rattle.rules_plan.specs.Numbers.{refusal_number}
 use Rattle.rules_plan.specs.Plan.{Plan, blank}
 use Rattle.rules_plan.specs.Canon.{written}
+
+-- what writing out answers: the refusal, or the size
+pub data Copied : Type 0 where
+  NotWritten : (number : ℕ) → Copied
+  Written : (size : ℕ) → Copied
+
+-- that answer, as the code gives it
+abbrev pub copied_told : Result ℕ Refusal → Copied
+copied_told (Ok size) = Written size
+copied_told (Err refusal) = NotWritten (refusal_number refusal)
 
 -- "Writing out answers 0 and the size."
 pub record Sized : Type 0 where

@@ -1,3 +1,4 @@
+pub mod Numbers
 pub mod Plan
 pub mod Fields
 pub mod Sheet

@@ -1,12 +1,12 @@
 -- "T-04 When is my next turn?": "the next slot in which initiator i may start a request of d bytes to target t". It is about the plan alone, and
 -- not about the present slot, the line or what is live.
-use Rattle.std.specs.Prelude.{ℕ, ◌+◌, ◌%◌, List, [], ◌∷◌, Bool, true, false, not, ltb, eqb}
+use Rattle.std.specs.Prelude.{ℕ, ◌+◌, ◌%◌, List, [], ◌∷◌, Bool, true, false, not, ltb, eqb, Result, Ok, Err}
 use Rattle.std.proofs.Math.Option.{Option, none, some, get_or}
 use Rattle.lists.specs.Search.{is_some}
 use Rattle.lists.specs.Numbers.{first_from}
 use Rattle.lists.specs.Rows.{Row, first_of}
-use Rattle.rules_plan.specs.declared.Next.{Next}
-use Rattle.rules_plan.specs.declared.Next.TheVariants.{NoTurn, Turn}
+use Rattle.rules_plan.specs.declared.Refusal.{Refusal}
+use Rattle.rules_plan.specs.Numbers.{refusal_number}
 use Rattle.rules_plan.specs.Plan.{Entry, Plan, blank}
 use Rattle.rules_plan.specs.Meaning.{is_initiator, permits, may_start, entry_at}
 
@@ -35,6 +35,16 @@ next_rows o i t n s =
 
 unfoldable pub next_refusal : Option Plan → (i t n s : ℕ) → ℕ
 next_refusal o i t n s = first_of (next_rows o i t n s)
+
+-- the answer: the refusal, or how many slots on the next turn is
+pub data Next : Type 0 where
+  NoTurn : (number : ℕ) → Next
+  Turn : (count : ℕ) → Next
+
+-- that of the code
+abbrev pub next_told : Result ℕ Refusal → Next
+next_told (Ok count) = Turn count
+next_told (Err refusal) = NoTurn (refusal_number refusal)
 
 unfoldable pub next_answer : Option Plan → (i t n s : ℕ) → Next
 next_answer o i t n s =

@@ -4,10 +4,9 @@ use mathlib.Core.List.{List, [], ◌∷◌, Memᴰ}
 use Rattle.std.proofs.Math.Option.{some}
 use Rattle.lists.specs.Search.{repeats}
 use Rattle.rules_plan.specs.declared.Verdict.{Verdict}
-use Rattle.rules_plan.specs.declared.Next.TheVariants.{NoTurn, Turn}
 use Rattle.rules_plan.specs.Plan.{Route, Entry, Times, Plan}
 use Rattle.rules_plan.specs.Meaning.{is_initiator, is_walk, covers, uses, home_of, routers, permits}
-use Rattle.rules_plan.specs.Next.{next_answer}
+use Rattle.rules_plan.specs.Next.{NoTurn, Turn, next_answer}
 use Rattle.rules_plan.specs.Verdict.{number}
 use Rattle.rules_plan.specs.Sheet.{sheet}
 use Rattle.rules_plan.specs.Judge.{judge}

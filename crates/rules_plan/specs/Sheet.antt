@@ -1,8 +1,19 @@
 -- "T-01 Transaction time sheet": how long a transaction takes, "in nanoseconds, each term rounded up", by the terms of document 000 section 4.
-use Rattle.std.specs.Prelude.{ℕ, ◌+◌, ◌-◌, ◌*◌, ◌/◌, List, [], ◌∷◌, Bool, true, false, ◌||◌, ltb}
-use Rattle.rules_plan.specs.declared.Sheet.{Sheet}
-use Rattle.rules_plan.specs.declared.Sheet.TheVariants.{NoSheet, Terms}
+use Rattle.std.specs.Prelude.{ℕ, ◌+◌, ◌-◌, ◌*◌, ◌/◌, List, [], ◌∷◌, Bool, true, false, ◌||◌, ltb, Result, Ok, Err}
+use Rattle.rules_plan.specs.declared.Terms as code
+use Rattle.rules_plan.specs.declared.Fault.{Fault}
+use Rattle.rules_plan.specs.Numbers.{fault_number}
 use Rattle.rules_plan.specs.Plan.{Times}
+
+-- the sheet of a transaction: its refusal, or the sum of its terms and those of them that are worked out
+pub data Sheet : Type 0 where
+  NoSheet : (number : ℕ) → Sheet
+  Terms : (sum b c e h i : ℕ) → Sheet
+
+-- that sheet, as the code gives it
+abbrev pub sheet_told : Result code.Terms Fault → Sheet
+sheet_told (Ok t) = Terms t.sum t.b t.c t.e t.h t.i
+sheet_told (Err fault) = NoSheet (fault_number fault)
 
 -- a quotient rounded up
 unfoldable pub quotient_up : ℕ → ℕ → ℕ

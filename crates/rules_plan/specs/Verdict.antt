@@ -1,10 +1,7 @@
 -- "Verdicts": the numbers and places of document 01 for each case of the declared verdict.
 use Rattle.std.specs.Prelude.{ℕ, List, [], ◌∷◌}
-use Rattle.std.proofs.Math.Option.{Option, none, some}
 use Rattle.rules_plan.specs.declared.Verdict.{Verdict}
 use Rattle.rules_plan.specs.declared.Verdict.TheVariants.{Accepted, Faulty, Overrun, Clash}
-use Rattle.rules_plan.specs.declared.Search.{Search}
-use Rattle.rules_plan.specs.declared.Search.TheVariants.{Nothing, Found}
 
 unfoldable pub number : Verdict → ℕ
 number (Accepted d l p e) = 0
@@ -19,8 +16,3 @@ place (Accepted d l p e) = d ∷ l ∷ p ∷ e ∷ []
 place (Faulty n at) = at ∷ []
 place (Overrun i s) = i ∷ s ∷ []
 place (Clash s i j l) = s ∷ i ∷ j ∷ l ∷ []
-
--- what a search over the whole plan answers in the code
-unfoldable pub search_of : Option Verdict → Search
-search_of none = Nothing
-search_of (some v) = Found v

@@ -35,3 +35,4 @@ pub mod SameVerdict
 pub mod SameItems
 pub mod Canonical
 pub mod Verdicts
+pub mod Numbers

@@ -2,6 +2,8 @@
 // The definitions stand in specs/; the verdict is declared here, so that definitions, contracts and code speak of one type.
 #![tactic(auto)]
 
+ghost use Rattle.std.specs.Prelude.{◌≡◌};
+ghost use Rattle.rules_plan.specs.Numbers.{fault_number, refusal_number};
 ghost use Rattle.rules_plan.specs.Promises.{Promises};
 
 // The verdict on a plan file. `number` and `place` of specs/Verdict give document 01's numbers for each case.
@@ -33,42 +35,66 @@ pub enum Verdict {
     },
 }
 
-// What a search over the whole plan finds: a verdict, or nothing. `search_of` of specs/Verdict.
+// Why a plan file is refused, where one number and one place tell it: "Refusals", 1 to 12, and T-02's 15.
 #[derive(Clone, Copy)]
-pub enum Search {
-    Nothing,
-    Found { verdict: Verdict },
+pub enum Fault {
+    FileTooLong = 1,
+    CutOff = 2,
+    UnknownTag = 3,
+    TagOrder = 4,
+    FieldLength = 5,
+    OutOfRange = 6,
+    GivenBefore = 7,
+    NotGiven = 8,
+    TooMany = 9,
+    NoWalk = 10,
+    NoPath = 11,
+    NoIntervals = 12,
+    NoEntry = 15,
 }
 
-// What writing out answers: refusal 20 or 30, or the size. `sized` of specs/Copy gives document 01's number and size.
-#[derive(Clone, Copy)]
-pub enum Copied {
-    NotWritten { number: u8 },
-    Written { size: u16 },
+impl From<Fault> for u8 {
+    ghost from_gives = { λ fault number. number ≡ fault_number fault };
+
+    fn from(fault: Fault) -> u8 {
+        fault as u8
+    }
 }
 
-// The sheet of a transaction: its refusal, or the sum of the terms of document 000 section 4 and those of them that are worked out, in
-// nanoseconds. `sheet_numbers` of specs/Sheet gives the number and values of each case.
+// Why an event or a question is refused: 20 to 30, and T-04's 33.
 #[derive(Clone, Copy)]
-pub enum Sheet {
-    NoSheet {
-        number: u8,
-    },
-    Terms {
-        sum: u32,
-        b: u32,
-        c: u32,
-        e: u32,
-        h: u32,
-        i: u32,
-    },
+pub enum Refusal {
+    NoPlan = 20,
+    UpperBits = 21,
+    NoInitiator = 22,
+    UnknownKind = 23,
+    LengthOverMost = 24,
+    NotPermitted = 25,
+    LineFull = 26,
+    NothingLive = 27,
+    OtherTransaction = 28,
+    SmallBuffer = 29,
+    SmallRoom = 30,
+    SlotOverMost = 33,
 }
 
-// When the next turn is: the refusal, or how many slots on it is. `next_numbers` of specs/Next gives the number and the count of each case.
+impl From<Refusal> for u8 {
+    ghost from_gives = { λ refusal number. number ≡ refusal_number refusal };
+
+    fn from(refusal: Refusal) -> u8 {
+        refusal as u8
+    }
+}
+
+// The terms of document 000 section 4 in nanoseconds, by their letters: their sum with the given latencies, and those of them that are worked out.
 #[derive(Clone, Copy)]
-pub enum Next {
-    NoTurn { number: u8 },
-    Turn { count: u8 },
+pub struct Terms {
+    pub sum: u32,
+    pub b: u32,
+    pub c: u32,
+    pub e: u32,
+    pub h: u32,
+    pub i: u32,
 }
 
 // What is promised of the definitions. It does nothing: its contract is the theorem.

@@ -2,33 +2,27 @@
 ghost use Rattle.std.specs.Prelude.{◌≡◌, ℕ};
 ghost use Rattle.memory_plan.specs.View.{Timed};
 ghost use Rattle.rules_box.specs.declared.Event.TheVariants.{Reading};
+ghost use Rattle.rules_box.specs.Answer.{reading_told};
 ghost use Rattle.rules_box.specs.State.{Box};
 ghost use Rattle.rules_box.specs.Step as rules;
 
 use memory_plan::interval::is_loaded;
 use memory_plan::layout::*;
-use rules_box::{Answer, Watchdog};
-use run_watchdog::watch::{Stepped, is_overdue, told_of};
+use rules_box::Watchdog;
+use rules_plan::Refusal;
+use run_watchdog::watch::{is_overdue, told_of};
 
-pub fn reading(numbers: &Numbers, w: Watchdog, clock: u32) -> Stepped
+// Whether the next time-code is late, which the watchdog then has as reported.
+pub fn reading(numbers: &Numbers, w: &mut Watchdog, clock: u32) -> Result<bool, Refusal>
     ensures { (b : Box) → Timed b.plan numbers.now → (room : ℕ) →
-        (result.answer ≡ (rules.step room b w (Reading clock)).answer) × (result.watchdog ≡ (rules.step room b w (Reading clock)).watchdog) }
+        (reading_told result ≡ (rules.step room b w.old (Reading clock)).answer) × (w.new ≡ (rules.step room b w.old (Reading clock)).watchdog) }
 {
     if !is_loaded(numbers) {
-        return Stepped {
-            answer: Answer::Refused { number: 20 },
-            watchdog: w,
-        };
+        return Err(Refusal::NoPlan);
     }
-    if is_overdue(w, clock) {
-        let told = told_of(w);
-        return Stepped {
-            answer: Answer::Told { late: 1 },
-            watchdog: told,
-        };
+    let late = is_overdue(*w, clock);
+    if late {
+        *w = told_of(*w);
     }
-    Stepped {
-        answer: Answer::Told { late: 0 },
-        watchdog: w,
-    }
+    Ok(late)
 }

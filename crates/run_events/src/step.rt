@@ -1,16 +1,15 @@
 // One step: the event decides.
+ghost use Rattle.rules_box.specs.Answer.{answer_told};
 ghost use Rattle.memory_run.specs.Memory.{Steps};
 
 use crate::reading::reading;
 use memory_plan::layout::*;
 use memory_run::layout::*;
-use rules_box::{Event, Watchdog};
+use rules_box::{Answer, Done, Event, Watchdog};
 use run_requests::reply::reply;
 use run_requests::request::request;
 use run_timecodes::time::time_code;
-use run_watchdog::watch::Stepped;
 
-// Every event, the five numbers by value.
 pub fn step(
     rows: &Rows,
     spans: &Spans,
@@ -18,40 +17,30 @@ pub fn step(
     numbers: &Numbers,
     run: &mut Run,
     last: &mut Last,
-    w: Watchdog,
+    w: &mut Watchdog,
     event: Event,
     records: &mut [u8],
-) -> Stepped
-    ensures { Steps rows.now spans.now aims.now numbers.now run.old last.old w records.old event
-        result.answer run.new last.new result.watchdog records.new }
+) -> Answer
+    ensures { Steps rows.now spans.now aims.now numbers.now run.old last.old w.old records.old event
+        (answer_told result) run.new last.new w.new records.new }
 {
     match event {
         Event::TimeCode { byte, clock } => time_code(
             spans, aims, numbers, run, last, w, byte, clock, records,
-        ),
+        ).map(|count| Done::Recorded { count }),
         Event::Request {
             initiator,
             target,
             kind,
             length,
-        } => {
-            let answer = request(rows, aims, numbers, run, initiator, target, kind, length);
-            Stepped {
-                answer,
-                watchdog: w,
-            }
-        }
+        } => request(rows, aims, numbers, run, initiator, target, kind, length).map(
+            |number| Done::Joined { number },
+        ),
         Event::Reply {
             initiator,
             number,
             status,
-        } => {
-            let answer = reply(rows, numbers, run, initiator, number, status);
-            Stepped {
-                answer,
-                watchdog: w,
-            }
-        }
-        Event::Reading { clock } => reading(numbers, w, clock),
+        } => reply(rows, numbers, run, initiator, number, status).map(|ending| Done::Ended(ending)),
+        Event::Reading { clock } => reading(numbers, w, clock).map(|late| Done::Told { late }),
     }
 }

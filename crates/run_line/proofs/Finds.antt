@@ -37,6 +37,10 @@ module _ (row : List ℕ) (targets span : ℕ) where
   pub seek-begin : Sought row targets span 0
   seek-begin n s f is e t k r h = absurd (omega arith)
 
+  -- each word before place i told apart
+  pub seek-passed : (i : ℕ) → ((k : ℕ) → k < i → Says (get_or row (k + 2) 0) targets span false) → Sought row targets span i
+  seek-passed i no' n s f is e t k r h at = sym (no' k h n e r t (f.line r (at-member s.line k r at)) (place_at n s f row is k r at))
+
   module _ (i : ℕ) (before : Sought row targets span i) where
     pub seek-next : (b : Bool) → Says (get_or row (i + 2) 0) targets span b → b ≡ false → Sought row targets span (i + 1)
     seek-next b says no' n s f is e t k r h at =

@@ -2,7 +2,8 @@
 // Each contract holds for every side that the row is of.
 #![tactic(auto)]
 
-ghost use Rattle.std.specs.Prelude.{◌≡◌, ◌+◌, ◌%◌, ◌<◌, true, [], ◌∷◌, ◌++◌, length, ◌==◌, slice_index};
+ghost use Rattle.std.specs.Prelude.{◌≡◌, ◌+◌, ◌%◌, ◌<◌, true, [], ◌∷◌, ◌++◌, length, ◌==◌, slice_index, IfSome};
+ghost use Rattle.lists.specs.Options.{if_below};
 ghost use Rattle.lists.specs.Place.{first, without};
 ghost use Rattle.rules_plan.specs.Plan.{Plan, Entry};
 ghost use Rattle.rules_plan.specs.Meaning.{least_span};
@@ -58,52 +59,32 @@ pub fn permits_oldest(row: &[u64], targets: u64, span: u8) -> bool
     permits_word(row[LINE], targets, span)
 }
 
-// The place of the oldest waiting request that the entry permits, 8 for none.
-pub fn find_row(row: &[u64], targets: u64, span: u8) -> usize
+// The place of the oldest waiting request that the entry permits.
+pub fn find_row(row: &[u64], targets: u64, span: u8) -> Option<usize>
     requires { IsRow row.now }
-    ensures upper_bound { result < 8 → result < slice_index row.now 1 }
-    ensures value { (o : Owner) (s : Side) → FitSide s → row.now ≡ row_of o s → (e : Entry) → Tells o targets span e → result ≡ place_or 8 (first (allows o.plan e) s.line) }
+    ensures upper_bound { IfSome result (λ k. (k < 8) × (k < slice_index row.now 1)) }
+    ensures value { (o : Owner) (s : Side) → FitSide s → row.now ≡ row_of o s → (e : Entry) → Tells o targets span e →
+        result ≡ if_below 8 (place_or 8 (first (allows o.plan e) s.line)) }
 {
-    let n = row[WAITING] as usize;
-    let mut i = 0;
-    while i < PLACES {
-        if n <= i {
-            return PLACES;
-        }
-        if permits_word(row[i + LINE], targets, span) {
-            return i;
-        }
-        i += 1;
-    }
-    PLACES
+    let waiting = row[WAITING] as usize;
+    row[LINE..LIVE]
+        .iter()
+        .take(waiting)
+        .position(|word| permits_word(*word, targets, span))
 }
 
-// The eight places once the one at place k has left: those behind move up, and the last is 0.
-fn shift(places: &mut [u64], k: usize)
-    requires { (length places.old ≡ 8) × (k < 8) }
-    ensures { places.new ≡ without k places.old ++ 0 ∷ [] }
-{
-    let mut j = 0;
-    while j < LAST_PLACE {
-        let next = j + 1;
-        if k <= j {
-            places[j] = places[next];
-        }
-        j = next;
-    }
-    places[LAST_PLACE] = 0;
-}
-
-// The same. Most often the oldest leaves, and for place 0 the compiler makes one move of all places, with no test.
+// The eight places once the one at place k has left: those behind move up, and the last is 0. Most often the oldest leaves, and for place 0
+// the compiler makes one move of all places, with no test.
 fn move_up(places: &mut [u64], k: usize)
     requires { (length places.old ≡ 8) × (k < 8) }
     ensures { places.new ≡ without k places.old ++ 0 ∷ [] }
 {
     if k == 0 {
-        shift(places, 0);
-        return;
+        places.copy_within(1.., 0);
+    } else {
+        places.copy_within(k + 1.., k);
     }
-    shift(places, k);
+    places[LAST_PLACE] = 0;
 }
 
 // The request at place k leaves the line.

@@ -35,17 +35,7 @@ fn put_eight(out: &mut [u8], at: usize, word: u64) -> usize
     requires { at + 8 ≤ length out.old }
     ensures { Put out.old at (bytes_of word) out.new result }
 {
-    let bytes = [
-        (word % 256) as u8,
-        (word / 256 % 256) as u8,
-        (word / 65_536 % 256) as u8,
-        (word / 16_777_216 % 256) as u8,
-        (word / 4_294_967_296 % 256) as u8,
-        (word / 1_099_511_627_776 % 256) as u8,
-        (word / 281_474_976_710_656 % 256) as u8,
-        (word / 72_057_594_037_927_936 % 256) as u8,
-    ];
-    put_bytes(out, at, &bytes)
+    put_bytes(out, at, &word.to_le_bytes())
 }
 
 // "kinds 4 to 6 fill all": of the request of a word. The word has the record's bytes; its own kind and its least span make room for the

@@ -1,7 +1,6 @@
 -- What a request does to the side of its initiator once the plan permits it.
 use Rattle.std.specs.Prelude.{ℕ, Bool, cond, length, leb}
-use Rattle.rules_box.specs.declared.Answer.{Answer}
-use Rattle.rules_box.specs.declared.Answer.TheVariants.{Refused, Joined}
+use Rattle.rules_box.specs.Answer.{Answer, Refused, Joined}
 use Rattle.rules_box.specs.State.{Side}
 use Rattle.rules_box.specs.Refuse.{places_in_line}
 use Rattle.rules_box.specs.Turn.{join}

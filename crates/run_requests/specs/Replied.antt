@@ -1,8 +1,7 @@
 -- What a reply of an initiator does to its side.
 use Rattle.std.specs.Prelude.{ℕ, not, cond}
 use Rattle.lists.specs.Search.{is_some}
-use Rattle.rules_box.specs.declared.Answer.{Answer}
-use Rattle.rules_box.specs.declared.Answer.TheVariants.{Refused}
+use Rattle.rules_box.specs.Answer.{Answer, Refused}
 use Rattle.rules_box.specs.State.{Side}
 use Rattle.rules_box.specs.Refuse.{is_live_number}
 use Rattle.rules_box.specs.Turn.{finish}

@@ -3,6 +3,7 @@ ghost use Rattle.std.specs.Prelude.{◌≡◌};
 ghost use Rattle.rules_plan.specs.Plan.{Plan};
 ghost use Rattle.rules_plan.specs.Meaning.{least_span};
 ghost use Rattle.memory_plan.specs.View.{owner};
+ghost use Rattle.rules_box.specs.Answer.{joined_told};
 ghost use Rattle.rules_box.specs.State.{Side};
 ghost use Rattle.rules_box.specs.laws.Fit.{FitSide};
 ghost use Rattle.memory_run.specs.Run.{row_of};
@@ -11,7 +12,7 @@ ghost use Rattle.run_requests.specs.Asked.{asked_answer, asked_side};
 
 use memory_run::layout::*;
 use memory_run::row::waiting;
-use rules_box::Answer;
+use rules_plan::Refusal;
 use run_line::join_row;
 
 // A request that the plan permits: refusal 26, or it joins the line.
@@ -22,14 +23,13 @@ pub fn ask_row(
     kind: u8,
     need: u8,
     length: u16,
-) -> Answer
+) -> Result<u16, Refusal>
     requires { IsRow row.old }
     ensures { (p : Plan) (s : Side) → FitSide s → need ≡ least_span p initiator target length → row.old ≡ row_of (owner p initiator) s →
-        (result ≡ asked_answer s) × (row.new ≡ row_of (owner p initiator) (asked_side target kind length s)) }
+        (joined_told result ≡ asked_answer s) × (row.new ≡ row_of (owner p initiator) (asked_side target kind length s)) }
 {
     if PLACES as u64 <= waiting(row) {
-        return Answer::Refused { number: 26 };
+        return Err(Refusal::LineFull);
     }
-    let number = join_row(row, initiator, target, kind, need, length);
-    Answer::Joined { number }
+    Ok(join_row(row, initiator, target, kind, need, length))
 }

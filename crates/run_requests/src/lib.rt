@@ -3,6 +3,5 @@
 
 pub mod asking;
 pub mod ending;
-pub mod no_row;
 pub mod reply;
 pub mod request;

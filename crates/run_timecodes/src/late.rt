@@ -33,12 +33,10 @@ fn late_row(
         (row.new ≡ row_of o (aged in_sequence s))
         × Puts out.old at (flat_map (record_bytes clock) (late_record in_sequence o.initiator v s.live)) out.new result) × (result ≤ at + record_size) }
 {
-    let late = age_row(row, in_sequence);
-    let word = late.word;
-    if late.one {
-        return put_full(out, at, 4, v, word, clock);
+    match age_row(row, in_sequence) {
+        Some(word) => put_full(out, at, 4, v, word, clock),
+        None => at,
     }
-    at
 }
 
 // Lateness of every initiator. Rows behind the initiators have nothing live.
@@ -57,8 +55,7 @@ pub fn report_late(
         × (result ≤ at + 8 * record_size) }
 {
     let mut k = at;
-    let mut row = 0;
-    while row < ROWS {
+    for row in 0..ROWS {
         k = late_row(
             &mut run[row * ROW..row * ROW + ROW],
             out,
@@ -67,7 +64,6 @@ pub fn report_late(
             clock,
             in_sequence,
         );
-        row += 1;
     }
     k
 }

@@ -3,6 +3,7 @@ ghost use Rattle.std.specs.Prelude.{◌≡◌, ℕ, ◌*◌, ◌≤◌, length};
 ghost use mathlib.Core.List.{List, [], ◌∷◌, flat_map};
 ghost use Rattle.rules_box.specs.declared.Event.TheVariants.{TimeCode};
 ghost use Rattle.lists.specs.Puts.{Puts};
+ghost use Rattle.rules_box.specs.Answer.{recorded_told};
 ghost use Rattle.rules_box.specs.State.{Box, the_plan};
 ghost use Rattle.rules_box.specs.Refuse.{record_size, most_records};
 ghost use Rattle.rules_box.specs.Records as rules-records;
@@ -17,9 +18,10 @@ use crate::sequence::{in_sequence, refuse};
 use crate::visits::visit_all;
 use memory_plan::layout::*;
 use memory_run::layout::*;
-use rules_box::{Answer, Watchdog};
+use rules_box::Watchdog;
+use rules_plan::Refusal;
 use run_records::{RECORD_SIZE, put_sequence_record, put_watchdog_record};
-use run_watchdog::watch::{Stepped, fed_with};
+use run_watchdog::watch::fed_with;
 
 // The records of an accepted time-code, and run memory after it. Answers where the records end. They are at most 17: in sequence one, and two for
 // each of eight initiators; out of it two, and one for each.
@@ -49,33 +51,24 @@ fn run_on(
     late
 }
 
+// An accepted time-code answers the record count, and feeds the watchdog; a refused one leaves all as it finds it.
 pub fn time_code(
     spans: &Spans,
     aims: &Aims,
     numbers: &Numbers,
     run: &mut Run,
     last: &mut Last,
-    w: Watchdog,
+    w: &mut Watchdog,
     byte: u8,
     clock: u32,
     records: &mut [u8],
-) -> Stepped
+) -> Result<u8, Refusal>
     ensures { (b : Box) (rows : List ℕ) → Finds b rows spans.now aims.now numbers.now run.old last.old →
-        Does (rules.step (length records.old) b w (TimeCode byte clock)) clock result.answer result.watchdog run.new last.new records.old records.new }
+        Does (rules.step (length records.old) b w.old (TimeCode byte clock)) clock (recorded_told result) w.new run.new last.new records.old records.new }
 {
-    let number = refuse(numbers, byte, records.len());
-    if number != 0 {
-        return Stepped {
-            answer: Answer::Refused { number },
-            watchdog: w,
-        };
-    }
-    let end = run_on(spans, aims, run, last[0], w, byte, clock, records);
+    refuse(numbers, byte, records.len())?;
+    let end = run_on(spans, aims, run, last[0], *w, byte, clock, records);
     last[0] = byte + 1;
-    Stepped {
-        answer: Answer::Recorded {
-            count: (end / RECORD_SIZE % 256) as u8,
-        },
-        watchdog: fed_with(w, clock),
-    }
+    *w = fed_with(*w, clock);
+    Ok((end / RECORD_SIZE % 256) as u8)
 }

@@ -43,12 +43,10 @@ fn visit_row(
         let live = live_word(row);
         return put_full(out, at, 6, v, live, clock);
     }
-    let start = start_row(row, targets, span);
-    let word = start.word;
-    if start.one {
-        return put_full(out, at, 5, v, word, clock);
+    match start_row(row, targets, span) {
+        Some(word) => put_full(out, at, 5, v, word, clock),
+        None => at,
     }
-    at
 }
 
 // The visit of every entry that stands at v. Rows behind the initiators have no entry.
@@ -69,8 +67,7 @@ pub fn visit_all(
         start_record i v (starting p (entry_at p.entries i v) (side i)) ++ still_record (entry_at p.entries i v) i v (side i).live) (initiators p))) out.new result }
 {
     let mut k = at;
-    let mut row = 0;
-    while row < ROWS {
+    for row in 0..ROWS {
         let span = span_at(spans, row, v);
         if span != 0 {
             let targets = targets_at(aims, row, v);
@@ -84,7 +81,6 @@ pub fn visit_all(
                 span,
             );
         }
-        row += 1;
     }
     k
 }

@@ -2,10 +2,13 @@
 use mathlib.Core.Path.{◌≡◌, refl, sym, ap, ◌∙◌}
 use mathlib.Core.List.{List}
 use mathlib.Core.Option.{Option, none, some}
-use mathlib.Core.Bool.{true, false}
+use mathlib.Core.Bool.{false}
 use Prim.Native.Nat.{ℕ, ◌+◌, ◌-◌, ◌*◌, ◌≤◌, ◌<◌}
 use native.Mathlib.Omega.{arith}
 use lib.ListN.{get_or, set}
+use Rattle.std.specs.Prelude as code
+use Rattle.std.specs.Prelude.{Some, None}
+use Rattle.lists.specs.Options.{as_option}
 use Rattle.lists.specs.Search.{is_some}
 use Rattle.lists.specs.Place.{Found, first, at_place}
 use Rattle.lists.specs.laws.Place.{first_some_lem, without-member, without-short}
@@ -17,16 +20,15 @@ use Rattle.rules_box.specs.laws.Fit.{FitSide}
 use Rattle.memory_plan.specs.View.{place_or, Owner}
 use Rattle.memory_run.specs.Run.{live_word, live_time, row_of}
 use Rattle.run_line.specs.Line.{leaves}
-use Rattle.run_turns.specs.Turns.{nobody, started_of, StartsAt}
-use Rattle.run_turns.specs.declared.Turned.{Turned}
+use Rattle.run_turns.specs.Turns.{started_of, StartsAt}
 use Rattle.memory_run.specs.laws.RowWords.{place_at, live-set}
 
 -- the answer and the row once a start has been made, or none
-abbrev pub Begins : Owner → Side → Option Start → Turned → List ℕ → Type 0
-Begins m s o r row = (r ≡ started_of m o) × (row ≡ row_of m (begun s o))
+abbrev pub Begins : Owner → Side → Option Start → code.Option ℕ → List ℕ → Type 0
+Begins m s o r row = (r ≡ as_option (started_of m o)) × (row ≡ row_of m (begun s o))
 
 -- the same once the entry has been visited
-abbrev pub Starts : Owner → Side → Entry → Turned → List ℕ → Type 0
+abbrev pub Starts : Owner → Side → Entry → code.Option ℕ → List ℕ → Type 0
 Starts m s e r row = Begins m s (starting m.plan (some e) s) r row
 
 leaves-fit : (s : Side) (k : ℕ) → FitSide s → FitSide (leaves k s)
@@ -41,14 +43,14 @@ leaves-fit s k f = record {
 -- the request at place k leaves the line and is live
 pub begins-at : (m : Owner) (s : Side) → FitSide s → (row : List ℕ) → row ≡ row_of m s → (k span : ℕ) (x : Start) → StartsAt k span s x
     → (y : List ℕ) (t : ℕ) → y ≡ row_of m (leaves k s) → t ≡ (span - 0) * 256 + span
-    → Begins m s (some x) (record { one = true; word = get_or row (k + 2) 0 }) (set (set y 10 (get_or row (k + 2) 0)) 11 t)
+    → Begins m s (some x) (Some (get_or row (k + 2) 0)) (set (set y 10 (get_or row (k + 2) 0)) 11 t)
 unfolding started_of begun fresh row_of leaves live_word live_time
 begins-at m s f row is k span x a y t ey et =
     let w = place_at m s f row is k x.found.what a.what in
     (rw w, live-set m (leaves k s) (leaves-fit s k f) y ey (get_or row (k + 2) 0) t ∙ rw (w, et, a.place, a.span))
 
 module _ (m : Owner) (s : Side) (f : FitSide s) (row : List ℕ) (is : row ≡ row_of m s) (e : Entry) where
-  starts_none : starting m.plan (some e) s ≡ none → Starts m s e (nobody) row
+  starts_none : starting m.plan (some e) s ≡ none → Starts m s e None row
   unfolding started_of begun
   starts_none h = (rw h, rw h is)
 
@@ -73,11 +75,11 @@ module _ (m : Owner) (s : Side) (f : FitSide s) (row : List ℕ) (is : row ≡ r
     one_found h none q = let z : k ≡ 8 = at ∙ ap (place_or 8) q in absurd (omega arith)
     one_found h (some g) q = (g, refl, at ∙ ap (place_or 8) q)
 
-    pub starts-nothing : 8 ≤ k → Starts m s e (nobody) row
+    pub starts-nothing : 8 ≤ k → Starts m s e None row
     unfolding start_at
     starts-nothing h = starts_none (sought ∙ ap (start_at e) (none_found h (first (allows m.plan e) s.line) refl))
 
-    pub starts-one : k < 8 → (span : ℕ) → e.span ≡ span → (r : Turned) (y : List ℕ) → ((x : Start) → StartsAt k span s x → Begins m s (some x) r y) → Starts m s e r y
+    pub starts-one : k < 8 → (span : ℕ) → e.span ≡ span → (r : code.Option ℕ) (y : List ℕ) → ((x : Start) → StartsAt k span s x → Begins m s (some x) r y) → Starts m s e r y
     unfolding start_at
     starts-one h span es r y does =
         let (g, q, z) = one_found h (first (allows m.plan e) s.line) refl in

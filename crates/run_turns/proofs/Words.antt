@@ -10,8 +10,8 @@ use Rattle.rules_box.specs.State.{Live}
 use Rattle.rules_box.specs.Turn.{is_late, older, survives}
 use Rattle.rules_box.specs.laws.Fit.{FitLive}
 use Rattle.memory_plan.specs.View.{Owner}
-use Rattle.memory_run.specs.Run.{live_time}
-use Rattle.run_turns.specs.Turns.{nobody, the, late_of}
+use Rattle.memory_run.specs.Run.{word_of, live_time}
+use Rattle.run_turns.specs.Turns.{late_of}
 
 -- lateness, told from the time
 module _ (l : Live) (f : FitLive l) (q : Bool) (time : ℕ) (is : time ≡ live_time (some l)) where
@@ -34,10 +34,10 @@ module _ (l : Live) (f : FitLive l) (q : Bool) (time : ℕ) (is : time ≡ live_
 
 -- what is answered and what survives, by whether what is live is late
 module _ (q : Bool) (i : Owner) (o : Option Live) (l : Live) (e : o ≡ some l) where
-  pub late-told : is_late q l ≡ true → (late_of q i o ≡ the i l.request) × (survives q o ≡ none)
+  pub late-told : is_late q l ≡ true → (late_of q i o ≡ some (word_of i l.request)) × (survives q o ≡ none)
   unfolding late_of survives
   late-told h = (rw (e, h), rw (e, h))
 
-  pub young-told : is_late q l ≡ false → (late_of q i o ≡ nobody) × (survives q o ≡ some (older l))
+  pub young-told : is_late q l ≡ false → (late_of q i o ≡ none) × (survives q o ≡ some (older l))
   unfolding late_of survives
   young-told h = (rw (e, h), rw (e, h))

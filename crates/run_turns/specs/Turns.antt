@@ -1,29 +1,21 @@
 -- What the functions on one initiator at a time-code answer, and what makes a start that of a place in the line.
-use Rattle.std.specs.Prelude.{◌≡◌, ℕ, Bool, true, false, cond}
+use Rattle.std.specs.Prelude.{◌≡◌, ℕ, Bool, cond}
 use Rattle.std.proofs.Math.Option.{Option, none, some}
 use Rattle.lists.specs.Place.{at_place}
-use Rattle.rules_box.specs.State.{Request, Live, Side}
+use Rattle.rules_box.specs.State.{Live, Side}
 use Rattle.rules_box.specs.Turn.{Start, is_late}
 use Rattle.memory_plan.specs.View.{Owner}
 use Rattle.memory_run.specs.Run.{word_of}
-use Rattle.run_turns.specs.declared.Turned.{Turned}
 
--- no transaction, and one, as its word
-abbrev pub nobody : Turned
-nobody = record { one = false; word = 0 }
+-- the word of the owner's live transaction, where it is late
+unfoldable pub late_of : Bool → Owner → Option Live → Option ℕ
+late_of q o none = none
+late_of q o (some l) = cond (is_late q l) (some (word_of o l.request)) none
 
-abbrev pub the : Owner → Request → Turned
-the o r = record { one = true; word = word_of o r }
-
--- the owner's live transaction that is late
-unfoldable pub late_of : Bool → Owner → Option Live → Turned
-late_of q o none = nobody
-late_of q o (some l) = cond (is_late q l) (the o l.request) nobody
-
--- the owner's request that starts
-unfoldable pub started_of : Owner → Option Start → Turned
-started_of o none = nobody
-started_of o (some x) = the o x.found.what
+-- the word of the owner's request that starts
+unfoldable pub started_of : Owner → Option Start → Option ℕ
+started_of o none = none
+started_of o (some x) = some (word_of o x.found.what)
 
 -- a start of the request at place k, at an entry of this span
 pub record StartsAt (k span' : ℕ) (s : Side) (x : Start) : Type 0 where

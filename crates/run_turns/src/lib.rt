@@ -4,6 +4,7 @@
 
 ghost use Rattle.std.specs.Prelude.{◌≡◌, false, ◌≤◌, ◌<◌, get_or};
 ghost use Rattle.std.proofs.Math.Option.{some};
+ghost use Rattle.lists.specs.Options.{as_option};
 ghost use Rattle.lists.specs.Search.{is_some};
 ghost use Rattle.rules_plan.specs.Plan.{Entry};
 ghost use Rattle.rules_box.specs.State.{Side, Live};
@@ -18,82 +19,59 @@ use memory_run::layout::*;
 use memory_run::row::finish_row;
 use run_line::{find_row, permits_oldest, take_row};
 
-// A transaction that ends late or that starts, if there is one: its request as its word, else 0.
-#[derive(Drop)]
-pub struct Turned {
-    pub one: bool,
-    pub word: u64,
-}
-
 // "out of sequence, every live one; else each one started span accepted time-codes ago": one is left to it, and its time is 256 and its
 // span, where two would be 512 and more.
 fn is_late(time: u64, in_sequence: bool) -> bool
     ensures le_time { result ≡ false → 512 ≤ time }
     ensures value { (l : Live) → FitLive l → time ≡ live_time (some l) → result ≡ is_late in_sequence l }
 {
-    if in_sequence { time < 512 } else { true }
+    !in_sequence || time < 512
 }
 
-// Lateness at a time-code: a late transaction ends, another is one time-code older.
-pub fn age_row(row: &mut [u64], in_sequence: bool) -> Turned
+// Lateness at a time-code: a late transaction ends and is answered as the word of its request; another is one time-code older.
+pub fn age_row(row: &mut [u64], in_sequence: bool) -> Option<u64>
     requires { IsRow row.old }
-    ensures { (o : Owner) (s : Side) → FitSide s → row.old ≡ row_of o s → (result ≡ late_of in_sequence o s.live) × (row.new ≡ row_of o (aged in_sequence s)) }
+    ensures { (o : Owner) (s : Side) → FitSide s → row.old ≡ row_of o s → (result ≡ as_option (late_of in_sequence o s.live)) × (row.new ≡ row_of o (aged in_sequence s)) }
 {
     let word = row[LIVE];
     let time = row[TIME];
     if time == 0 {
-        return Turned {
-            one: false,
-            word: 0,
-        };
+        return None;
     }
     if is_late(time, in_sequence) {
         finish_row(row);
-        return Turned {
-            one: true,
-            word: word,
-        };
+        return Some(word);
     }
     row[TIME] = time - 256;
-    Turned {
-        one: false,
-        word: 0,
-    }
+    None
 }
 
-// The request at place k leaves the line and is live.
-fn begin_at(row: &mut [u64], k: usize, span: u8) -> Turned
+// The request at place k leaves the line and is live: answered as its word.
+fn begin_at(row: &mut [u64], k: usize, span: u8) -> Option<u64>
     requires { IsRow row.old × (k < 8) × (k < get_or row.old 1 0) }
     ensures { (o : Owner) (s : Side) → FitSide s → row.old ≡ row_of o s → (x : Start) → StartsAt k span s x →
-        (result ≡ started_of o (some x)) × (row.new ≡ row_of o (begun s (some x))) }
+        (result ≡ as_option (started_of o (some x))) × (row.new ≡ row_of o (begun s (some x))) }
 {
     let word = row[k + LINE];
     take_row(row, k);
     row[LIVE] = word;
     // All of its span is left to it: span × 256, and the span.
     row[TIME] = 257 * span as u64;
-    Turned {
-        one: true,
-        word: word,
-    }
+    Some(word)
 }
 
 // "the oldest waiting request it permits (target and 256 × span) starts", where nothing is live. Most often that is the oldest of all: tried
 // by itself, it leaves the line with no test of its place.
-pub fn start_row(row: &mut [u64], targets: u64, span: u8) -> Turned
+pub fn start_row(row: &mut [u64], targets: u64, span: u8) -> Option<u64>
     requires { IsRow row.old }
     ensures { (o : Owner) (s : Side) → FitSide s → row.old ≡ row_of o s → is_some s.live ≡ false → (e : Entry) → Tells o targets span e →
-        (result ≡ started_of o (starting o.plan (some e) s)) × (row.new ≡ row_of o (begun s (starting o.plan (some e) s))) }
+        (result ≡ as_option (started_of o (starting o.plan (some e) s))) × (row.new ≡ row_of o (begun s (starting o.plan (some e) s))) }
 {
     if permits_oldest(row, targets, span) {
         return begin_at(row, 0, span);
     }
-    let k = find_row(row, targets, span);
-    if k >= PLACES {
-        return Turned {
-            one: false,
-            word: 0,
-        };
-    }
+    let Some(k) = find_row(row, targets, span) else {
+        return None;
+    };
     begin_at(row, k, span)
 }

@@ -1,11 +1,9 @@
 -- The lines that a script's commands print, as REPLAY.md's table has them.
 use Rattle.std.specs.Prelude.{◌≡◌, List, [], ◌∷◌, ◌++◌, Bool, true, false, cond, ℕ, ◌*◌, length, get_or, take, drop, eqb}
 use Rattle.rules_plan.specs.Print.{text, decimal}
-use Rattle.rules_plan.specs.declared.Sheet.{Sheet}
-use Rattle.rules_plan.specs.declared.Next.{Next}
 use Rattle.rules_plan.specs.Copy.{Sized}
-use Rattle.rules_plan.specs.Sheet.{sheet_numbers}
-use Rattle.rules_plan.specs.Next.{next_numbers}
+use Rattle.rules_plan.specs.Sheet.{sheet_numbers, Sheet}
+use Rattle.rules_plan.specs.Next.{Next, next_numbers}
 use Rattle.rules_box.specs.declared.Event.{Event}
 use Rattle.rules_box.specs.declared.Event.TheVariants.{TimeCode, Request, Reply, Reading}
 use Rattle.rules_box.specs.declared.Watchdog.{Watchdog}

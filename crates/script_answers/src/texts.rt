@@ -1,7 +1,9 @@
 // The lines that commands print, each at the front of a buffer that has room for the longest: the hex of 32,768 bytes behind two numbers.
 ghost use Rattle.std.specs.Prelude.{◌≡◌, ◌*◌, ◌≤◌, length};
 ghost use Rattle.script_answers.specs.Texts.{ended, error_line, numbers_line, bytes_line, event_line, out_line, yes_or_no, watchdog_line, sheet_line, next_line, flag_line, Prints};
-ghost use Rattle.rules_plan.specs.Copy.{sized};
+ghost use Rattle.rules_plan.specs.Copy.{sized, copied_told};
+ghost use Rattle.rules_plan.specs.Next.{next_told};
+ghost use Rattle.rules_plan.specs.Sheet.{sheet_told};
 ghost use Rattle.rules_box.specs.Answer.{Values};
 ghost use Rattle.rules_box.specs.Refuse.{record_size};
 ghost use Rattle.run_events.specs.Values.{listed};
@@ -9,7 +11,7 @@ ghost use Rattle.run_events.specs.Values.{listed};
 use bytes_get::part;
 use bytes_put::{put, put_decimal};
 use rules_box::{Event, Watchdog};
-use rules_plan::{Copied, Next, Sheet};
+use rules_plan::{Fault, Refusal, Terms};
 use script_hex::put_hex;
 use script_words::put_numbers;
 
@@ -114,55 +116,44 @@ pub fn put_flag(out: &mut [u8; 65600], flag: bool) -> usize
     ensures { Prints (flag_line flag) out.old out.new result }
 {
     if flag {
-        return put_word(out, b"1");
+        put_word(out, b"1")
+    } else {
+        put_word(out, b"0")
     }
-    put_word(out, b"0")
 }
 
 // The line of a plan written out, by the answer and the buffer after it.
-pub fn put_copied(out: &mut [u8; 65600], copied: Copied, buffer: &[u8]) -> usize
+pub fn put_copied(out: &mut [u8; 65600], copied: Result<u16, Refusal>, buffer: &[u8]) -> usize
     requires { length buffer.now ≤ 32_768 }
-    ensures { Prints (out_line (sized copied) buffer.now) out.old out.new result }
+    ensures { Prints (out_line (sized (copied_told copied)) buffer.now) out.old out.new result }
 {
     match copied {
-        Copied::NotWritten { number } => {
-            let ns = [number as u32, 0];
-            put_bytes(out, &ns, &buffer[..0])
-        }
-        Copied::Written { size } => {
-            let ns = [0, size as u32];
-            put_bytes(out, &ns, part(buffer, 0, size as usize))
-        }
+        Ok(size) => put_bytes(out, &[0, size as u32], part(buffer, 0, size as usize)),
+        Err(refusal) => put_bytes(out, &[u8::from(refusal) as u32, 0], &[]),
     }
 }
 
 // The line of a sheet: its number, and the sum or 0.
-pub fn put_sheet(out: &mut [u8; 65600], sheet: Sheet) -> usize
-    ensures { Prints (sheet_line sheet) out.old out.new result }
+pub fn put_sheet(out: &mut [u8; 65600], sheet: Result<Terms, Fault>) -> usize
+    ensures { Prints (sheet_line (sheet_told sheet)) out.old out.new result }
 {
     match sheet {
-        Sheet::NoSheet { number } => {
-            let ns = [number as u32, 0];
-            put_row(out, &ns)
-        }
-        Sheet::Terms { sum, b, c, e, h, i } => {
-            let ns = [0, sum];
-            put_row(out, &ns)
-        }
+        Ok(terms) => put_row(out, &[0, terms.sum]),
+        Err(fault) => put_row(out, &[u8::from(fault) as u32, 0]),
     }
 }
 
 // The line of the question for the next turn: its number, and the count or 0.
-pub fn put_next(out: &mut [u8; 65600], next: Next) -> usize
-    ensures { Prints (next_line next) out.old out.new result }
+pub fn put_next(out: &mut [u8; 65600], next: Result<u8, Refusal>) -> usize
+    ensures { Prints (next_line (next_told next)) out.old out.new result }
 {
     match next {
-        Next::NoTurn { number } => {
-            let ns = [number as u32, 0];
+        Ok(count) => {
+            let ns = [0, count as u32];
             put_row(out, &ns)
         }
-        Next::Turn { count } => {
-            let ns = [0, count as u32];
+        Err(refusal) => {
+            let ns = [u8::from(refusal) as u32, 0];
             put_row(out, &ns)
         }
     }

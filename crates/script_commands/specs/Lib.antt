@@ -1,3 +1,4 @@
+pub mod Kind
 pub mod Script
 pub mod Samples
 pub mod laws

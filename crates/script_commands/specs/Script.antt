@@ -1,11 +1,12 @@
 -- "The script that `replay` reads": one line of it as a command. Bytes are ASCII: 35 is `#`.
+use Rattle.std.specs.Prelude as prelude
 use Rattle.std.specs.Prelude.{List, [], ◌∷◌, true, false, ℕ, eqb, get_or}
 use Rattle.std.proofs.Math.Option.{none, some}
 use Rattle.rules_plan.specs.Print.{text}
 use Rattle.script_words.specs.Words.{same, words_of, numbers_of}
 use Rattle.script_hex.specs.Hex.{bytes_of}
-use Rattle.script_commands.specs.declared.command.Kind.{Kind}
-use Rattle.script_commands.specs.declared.command.Kind.TheVariants as kind
+use Rattle.script_commands.specs.Kind.{Kind}
+use Rattle.script_commands.specs.Kind as kind
 use Rattle.script_commands.specs.declared.command.Command.{Command}
 use Rattle.script_commands.specs.declared.command.Command.TheVariants.{Skip, Bad, Load, Clear, TimeCode, Request, Reply, Reading, Out, Watchdog, SetWatchdog, Sheet, Next, Blank, Holds}
 
@@ -43,6 +44,11 @@ made kind.Next ns = Next (get_or ns 0 0) (get_or ns 1 0) (get_or ns 2 0) (get_or
 -- the table: a command's name, and the command by the words behind it
 unfoldable pub numbered : Kind → List (List ℕ) → Command
 numbered k ws = elim (numbers_of (mosts k) ws) [ none ↦ Bad | some ns ↦ made k ns ]
+
+-- what the functions that read a command answer: none is a line that is no command
+abbrev pub or_bad : prelude.Option Command → Command
+or_bad prelude.None = Bad
+or_bad (prelude.Some c) = c
 
 unfoldable pub with_bytes : Command → List (List ℕ) → Command
 with_bytes c [] = Bad

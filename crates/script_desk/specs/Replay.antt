@@ -13,9 +13,8 @@ use Rattle.memory_plan.specs.PlanHeld.{PlanHeld}
 use Rattle.load_plan.specs.Load.{HoldsPlanOf}
 use Rattle.rules_box.specs.declared.Event.{Event}
 use Rattle.rules_box.specs.declared.Event.TheVariants as event
-use Rattle.rules_box.specs.declared.Answer.{Answer}
+use Rattle.rules_box.specs.Answer.{Answer, values}
 use Rattle.rules_box.specs.declared.Watchdog as five
-use Rattle.rules_box.specs.Answer.{values}
 use Rattle.box_calls.specs.Calls.{Memory, ClearLeaves, LoadLeaves, StepLeaves}
 use Rattle.script_hex.specs.Hex.{bytes_of}
 use Rattle.script_commands.specs.declared.command.Command.{Command}

@@ -8,6 +8,7 @@ use lib.ListN.{length, get_or, set, take, drop}
 use lib.Seq.{take_all}
 use lib.Dec.{ltb, leb, eqb}
 use borrow.Author.Tests.{lt-ltb, le-ltb, le-leb, lt-leb, eq-eqb, ne_eqb}
+use Rattle.std.specs.List.{list_all}
 use Rattle.lists.specs.Search.{all, when, is_some}
 use Rattle.lists.specs.Stores.{Put}
 use Rattle.lists.specs.laws.Bools.{not_some}
@@ -17,6 +18,12 @@ use Rattle.script_words.specs.Words.{same}
 use Rattle.script_words.specs.laws.Words.{same-lengths}
 use Rattle.script_hex.specs.Hex.{is_hex, hex_of, pairs_of, is_pairs, bytes_of, decoded}
 use Rattle.script_hex.specs.laws.Bytes.{bytes-pairs, pairs-length}
+
+-- a test of each byte
+pub each-hex : (w : List ℕ) → list_all is_hex w ≡ all is_hex w
+unfolding all
+each-hex [] = refl
+each-hex (c ∷ cs) = rw (each-hex cs)
 
 -- one byte: `-`, or half a pair
 pub one_byte : (w : List ℕ) → length w ≡ 1 → eqb (get_or w 0 0) 45 ≡ is_some (bytes_of w)

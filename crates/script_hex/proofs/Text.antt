@@ -1,11 +1,13 @@
 -- Bytes in hex, with one byte more. Assumes nothing.
-use mathlib.Core.Path.{◌≡◌, refl}
+use mathlib.Core.Path.{◌≡◌, refl, sym, ◌∙◌}
+use mathlib.Core.Bool.{Bool, true, false}
 use mathlib.Core.List.{List, [], ◌∷◌, flat_map}
 use Prim.Native.Nat.{ℕ, ◌+◌, ◌-◌, ◌*◌, ◌/◌, ◌%◌, ◌≤◌, ◌<◌}
 use native.Mathlib.Omega.{arith}
 use lib.ListN.{length, get_or, set, take}
 use lib.Seq.{take_all}
-use borrow.Author.Tests.{lt-ltb, le-ltb}
+use lib.Dec.{eqb}
+use borrow.Author.Tests.{lt-ltb, le-ltb, eqb-true, eqb-false}
 use Rattle.lists.specs.Stores.{Put}
 use Rattle.lists.specs.Puts.{Puts}
 use Rattle.lists.specs.laws.Stores.{put_one, put_then, flat-more}
@@ -21,6 +23,13 @@ number-digit n h = rw (lt-ltb n 10 h)
 pub letter-digit : (n : ℕ) → 10 ≤ n → 97 + (n - 10) ≡ hex_digit n
 unfolding hex_digit
 letter-digit n h = rw (le-ltb n 10 h)
+
+-- what it says of bytes whether there are none
+pub are-none : {r : Bool} (bs : List ℕ) → r ≡ eqb (length bs) 0 → r ≡ true → length bs ≡ 0
+are-none bs e f = eqb-true _ _ (sym e ∙ f)
+
+pub are-some : {r : Bool} (bs : List ℕ) → r ≡ eqb (length bs) 0 → r ≡ false → 0 < length bs
+are-some bs e f = let n : length bs ≡ 0 → ⊥ = eqb-false _ _ (sym e ∙ f) in omega arith
 
 some_bytes : (bs : List ℕ) → 0 < length bs → hex_text bs ≡ flat_map hex_byte bs
 unfolding hex_text

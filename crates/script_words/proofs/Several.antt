@@ -11,31 +11,22 @@ use lib.ListN.{length, get_or, set, take, drop, length-set, length-drop, take-ap
 use lib.Seq.{length-take-le, drop-cons, drop-drop, drop-set-lt, take-suc-set, get_or-set_same, get_or-set_other}
 use lib.Dec.{eqb}
 use borrow.Author.Tests.{eqb-true, eqb-false}
+use Rattle.std.specs.Prelude.{Some, None}
+use Rattle.lists.specs.Options.{as_option}
 use Rattle.lists.specs.laws.Bools.{not-both}
 use Rattle.script_words.specs.Words.{number_of, before, numbers_of}
-use Rattle.script_words.specs.Reading.{WordEnds, behind_word, or_none, leading, NumbersRead}
+use Rattle.script_words.specs.Reading.{WordEnds, behind_word, leading, NumbersRead}
 use Rattle.script_words.specs.laws.Words.{left_over, more-words}
 use Rattle.script_words.specs.laws.Numbers.{number-most}
 
--- the number for none is none
-is_none : (most : ℕ) (w : List ℕ) → most < 4_294_967_296 → or_none (number_of most w) ≡ 4_294_967_296 → number_of most w ≡ none
-unfolding or_none
-is_none most w l h = go (number_of most w) refl
-  where
-    go : (o : Option ℕ) → number_of most w ≡ o → o ≡ none
-    go none e = refl
-    go (some n) e = absurd (omega (arith, number-most most w n e, rw e at h))
+-- what the code's option says of a number
+none_is : (o : Option ℕ) → None ≡ as_option o → o ≡ none
+none_is none e = refl
+none_is (some n) e = cc
 
-is_number : (most : ℕ) (w : List ℕ) (n : ℕ) → n ≡ or_none (number_of most w) → (n ≡ 4_294_967_296 → ⊥) → number_of most w ≡ some n
-unfolding or_none
-is_number most w n h k = go (number_of most w) refl
-  where
-    go : (o : Option ℕ) → number_of most w ≡ o → o ≡ some n
-    go none e = absurd (k (h ∙ ap or_none e))
-    go (some m) e = ap some (sym (h ∙ ap or_none e))
-
-pub number_small : (most : ℕ) (w : List ℕ) (n : ℕ) → n ≡ or_none (number_of most w) → (n ≡ 4_294_967_296 → ⊥) → n ≤ most
-number_small most w n h k = number-most most w n (is_number most w n h k)
+some_is : (o : Option ℕ) (n : ℕ) → Some n ≡ as_option o → o ≡ some n
+some_is none n e = cc
+some_is (some m) n e = cc
 
 -- numbers in front of others
 unfoldable pub with_front : List ℕ → Option (List ℕ) → Option (List ℕ)
@@ -92,18 +83,17 @@ module _ {mosts : List ℕ} {ws : List (List ℕ)} {line cells out : List ℕ} {
       failed (f.reads ∙ rw (drop_of_length-le line {i = at} (omega arith), drop-cons mosts i 0 h, numbers_of))
       (rw (drop_of_length-le line {i = at} (omega arith), drop-cons mosts i 0 h, leading))
 
-  module _ (h : i < length mosts) (l : at < length line) (s : List ℕ) (e : s ≡ drop (at + 1) line) (size n : ℕ) (w : WordEnds s size)
-      (g : n ≡ or_none (number_of (get_or mosts i 0) (take size s))) where
-    pub number-missing : get_or mosts i 0 < 4_294_967_296 → n ≡ 4_294_967_296 → NumbersRead mosts ws cells out false
+  module _ (h : i < length mosts) (l : at < length line) (s : List ℕ) (e : s ≡ drop (at + 1) line) (size : ℕ) (w : WordEnds s size) where
+    pub number-missing : None ≡ as_option (number_of (get_or mosts i 0) (take size s)) → NumbersRead mosts ws cells out false
     unfolding numbers_of leading with_front
-    number-missing b k =
-        let z = is_none (get_or mosts i 0) (take size s) b (sym g ∙ k) in
+    number-missing g =
+        let z = none_is (number_of (get_or mosts i 0) (take size s)) g in
         failed (f.reads ∙ rw (more-words line s at size l e w, drop-cons mosts i 0 h, numbers_of, z))
         (rw (more-words line s at size l e w, drop-cons mosts i 0 h, leading, z))
 
-    pub read_next : (n ≡ 4_294_967_296 → ⊥) → FirstRead mosts ws line cells (set out i n) (at + 1 + size) (i + 1)
+    pub read_next : (n : ℕ) → Some n ≡ as_option (number_of (get_or mosts i 0) (take size s)) → FirstRead mosts ws line cells (set out i n) (at + 1 + size) (i + 1)
     unfolding numbers_of leading
-    read_next k = record {
+    read_next n g = record {
       upto = omega arith;
       within = omega (arith, w.within, ap length e, length-drop (at + 1) line);
       room = f.room;
@@ -116,7 +106,7 @@ module _ {mosts : List ℕ} {ws : List (List ℕ)} {line cells out : List ℕ} {
     }
       where
         is : number_of (get_or mosts i 0) (take size s) ≡ some n
-        is = is_number (get_or mosts i 0) (take size s) n g k
+        is = some_is (number_of (get_or mosts i 0) (take size s)) n g
 
         free : i < length out
         free = omega (arith, f.size, f.room)
@@ -125,7 +115,7 @@ module _ {mosts : List ℕ} {ws : List (List ℕ)} {line cells out : List ℕ} {
         one = take-suc-set out i n free
 
         go : (j : ℕ) → j < i + 1 → Dec (j ≡ i) → get_or (set out i n) j 0 ≤ get_or mosts j 0
-        go j b (yes z) = rw (z, get_or-set_same out i n 0 free) (number_small (get_or mosts i 0) (take size s) n g k)
+        go j b (yes z) = rw (z, get_or-set_same out i n 0 free) (number-most (get_or mosts i 0) (take size s) n is)
         go j b (no z) = rw (get_or-set_other out i j n 0 z) (f.small j (omega arith))
 
   -- every number is read: no word is to be left

@@ -1,34 +1,32 @@
--- The first word of a line, gone through byte by byte. Assumes nothing.
-use mathlib.Core.Path.{◌≡◌, refl, ◌∙◌}
-use mathlib.Core.List.{List, [], ◌∷◌, ◌++◌, append-nil, append_assoc}
-use Prim.Native.Nat.{ℕ, suc, ◌+◌, ◌<◌}
-use native.Mathlib.Numerals.{add-one}
-use native.Mathlib.Omega.{arith}
-use lib.ListN.{length, get_or, take, drop, drop_of_length-le}
-use lib.Seq.{drop-cons, take-suc}
-use borrow.Author.Tests.{eq-eqb, ne_eqb}
+-- The first word of a line ends at the first space. Assumes nothing.
+use Rattle.std.specs.Prelude.{◌≡◌, refl, List, [], ◌∷◌, Bool, true, false, not, cond, Option, Some, None, unwrap_or, ℕ, ◌+◌, eqb, ltb, length}
+use Rattle.std.specs.List.{position_or_len}
+use Rattle.std.proofs.Common.{ap, ◌∙◌, arith, one-add, ltb-false}
 use Rattle.script_words.specs.Words.{in_front, words_of}
 use Rattle.script_words.specs.Reading.{WordEnds, behind_word}
-use Rattle.script_words.specs.laws.Words.{InWord}
 
-in-front-more : (xs : List ℕ) (c : ℕ) (ws : List (List ℕ)) → in_front xs (in_front (c ∷ []) ws) ≡ in_front (xs ++ (c ∷ [])) ws
-unfolding in_front
-in-front-more xs c [] = refl
-in-front-more xs c (w ∷ ws) = rw (append_assoc xs (c ∷ []) w)
+abbrev pub is_space : ℕ → Bool
+is_space c = eqb c 32
 
-module _ (s : List ℕ) (i : ℕ) (e : InWord s i) where
-  pub in-word-next : i < length s → (get_or s i 0 ≡ 32 → ⊥) → InWord s (i + 1)
-  unfolding words_of
-  in-word-next h k =
-      e ∙ rw (drop-cons s i 0 h, words_of, ne_eqb (get_or s i 0) 32 k, in-front-more (take i s) (get_or s i 0) (words_of (drop (suc i) s)), add-one i, take-suc s i 0 h)
+pub word-ends : (s : List ℕ) → WordEnds s (position_or_len is_space s)
+unfolding words_of in_front behind_word
+word-ends [] = record { within = omega arith; splits = refl }
+word-ends (c ∷ cs) = go (word-ends cs) (eqb c 32) refl
+  where
+    go : WordEnds cs (position_or_len is_space cs) → (b : Bool) → eqb c 32 ≡ b → WordEnds (c ∷ cs) (cond (not b) (1 + position_or_len is_space cs) 0)
+    go w true e = record { within = omega arith; splits = rw (e, words_of) }
+    go w false e = record { within = omega (arith, w.within); splits = rw (e, words_of, w.splits, one-add) }
 
-  pub word-space : i < length s → get_or s i 0 ≡ 32 → WordEnds s i
-  unfolding words_of in_front behind_word
-  word-space h k = record {
-    within = omega arith;
-    splits = e ∙ rw (drop-cons s i 0 h, words_of, eq-eqb (get_or s i 0) 32 k, append-nil (take i s));
-  }
+-- the place of the first space, and the length where there is none
+pub word-told : (s : List ℕ) {r : ℕ} (o : Option ℕ) → o ≡ cond (ltb (position_or_len is_space s) (length s)) (Some (position_or_len is_space s)) None
+    → r ≡ unwrap_or o (length s) → WordEnds s r
+word-told s {r} o found told = let is = go (ltb p (length s)) refl in rw is (word-ends s)
+  where
+    p : ℕ
+    p = position_or_len is_space s
 
-  pub word-last : i ≡ length s → WordEnds s i
-  unfolding words_of in_front behind_word
-  word-last h = record { within = omega arith; splits = e ∙ rw (drop_of_length-le s {i = i} (omega arith), append-nil (take i s)) }
+    go : (b : Bool) → ltb p (length s) ≡ b → r ≡ p
+    go true e = told ∙ ap (λ (q : Option ℕ). unwrap_or q (length s)) (rw e at found)
+    go false e =
+        let n : length s ≡ p = omega (arith, ltb-false p (length s) e, (word-ends s).within) in
+        told ∙ ap (λ (q : Option ℕ). unwrap_or q (length s)) (rw e at found) ∙ n

@@ -1,6 +1,6 @@
 -- What the functions that read a line ensure.
 use Rattle.std.specs.Prelude.{◌≡◌, List, [], ◌∷◌, ◌++◌, Bool, true, false, ℕ, ◌≤◌, ◌<◌, length, get_or, take, drop}
-use Rattle.std.proofs.Math.Option.{Option, none, some}
+use Rattle.std.proofs.Math.Option.{none, some}
 use Rattle.script_words.specs.Words.{words_of, number_of, numbers_of}
 
 -- the words behind the word that ends where s begins
@@ -12,11 +12,6 @@ behind_word (c ∷ cs) = words_of cs
 pub record WordEnds (s : List ℕ) (n : ℕ) : Type 0 where
   pub within : n ≤ length s
   pub splits : words_of s ≡ take n s ∷ behind_word (drop n s)
-
--- a number as one of 64 bits, and 4,294,967,296 for none
-unfoldable pub or_none : Option ℕ → ℕ
-or_none none = 4_294_967_296
-or_none (some n) = n
 
 -- the numbers in front of the first word that is missing or no number within its bound
 unfoldable pub leading : List ℕ → List (List ℕ) → List ℕ

@@ -1,11 +1,10 @@
 -- What each export answers and leaves: its contract. A name with ' is what an array holds afterwards; what has none is what it held
 -- before, or what is lent only to be read.
 use Rattle.std.specs.Prelude.{◌≡◌, ◌↔◌, Bool, true, false, ℕ, ◌≤◌, List, ◌++◌, length, drop}
-use Rattle.rules_plan.specs.declared.Copied.{Copied}
-use Rattle.rules_plan.specs.declared.Next.{Next}
+use Rattle.rules_plan.specs.Copy.{Copied}
 use Rattle.rules_plan.specs.Plan.{nth}
 use Rattle.rules_plan.specs.Sheet.{sheet_answer, sheet_numbers}
-use Rattle.rules_plan.specs.Next.{next_numbers}
+use Rattle.rules_plan.specs.Next.{Next, next_numbers}
 use Rattle.rules_plan.specs.Judge.{judge}
 use Rattle.rules_plan.specs.Print as print
 use Rattle.memory_plan.specs.Memory as plan
@@ -13,10 +12,9 @@ use Rattle.out_plan.specs.Out.{WritesOut}
 use Rattle.ask_next.specs.Asked.{TellsNext}
 use Rattle.load_plan.specs.Load.{plan_left, HoldsPlanOf}
 use Rattle.rules_box.specs.declared.Event.TheVariants.{TimeCode, Request, Reply, Reading}
-use Rattle.rules_box.specs.declared.Answer.{Answer}
+use Rattle.rules_box.specs.Answer.{Answer, values}
 use Rattle.rules_box.specs.declared.Watchdog.{Watchdog}
 use Rattle.rules_box.specs.State.{cleared, watchdog_cleared}
-use Rattle.rules_box.specs.Answer.{values}
 use Rattle.run_events.specs.Values.{listed}
 use Rattle.box_calls.specs.Calls.{Memory, At, LoadLeaves}
 use Rattle.memory_run.specs.Memory.{Steps}
@@ -39,10 +37,6 @@ pub record EventAnswered (answer' : List ℕ) (Does : Answer → Type 0) : Type 
   pub numbers : answer' ≡ listed (values answer)
   pub does : Does answer
 
--- a watchdog with the least and the greatest of another: they are the plan's, and no event changes them
-abbrev pub with_intervals : Watchdog → Watchdog → Watchdog
-with_intervals r w = record { last = r.last; seen = r.seen; reported = r.reported; least = w.least; greatest = w.greatest }
-
 -- `spwd_c_time_code`. It is lent no rows: run memory has the initiators of what it tells.
 pub record TimeCodes (spans aims numbers run last : List ℕ) (w : Watchdog) (byte clock : ℕ) (records run' last' : List ℕ) (w' : Watchdog) (records' answer' : List ℕ) : Type 0 where
   pub steps : EventAnswered answer' λ a.
@@ -57,11 +51,6 @@ pub record Requests (rows aims numbers run : List ℕ) (initiator target kind si
 pub record Replies (rows numbers run : List ℕ) (initiator transaction status : ℕ) (run' answer' : List ℕ) : Type 0 where
   pub steps : EventAnswered answer' λ a.
       (spans aims last : List ℕ) (w : Watchdog) (records : List ℕ) → Steps rows spans aims numbers run last w records (Reply initiator transaction status) a run' last w records
-
--- a watchdog that is reported where the next time-code is overdue
-abbrev pub reported_where : Bool → Watchdog → Watchdog
-reported_where true w = record { last = w.last; seen = w.seen; reported = 1; least = w.least; greatest = w.greatest }
-reported_where false w = w
 
 -- `spwd_c_reading`. It is lent only whether there is a plan, and the five numbers.
 pub record Readings (numbers : List ℕ) (w : Watchdog) (clock : ℕ) (w' : Watchdog) (answer' : List ℕ) : Type 0 where

@@ -9,28 +9,6 @@ use memory_plan::layout::*;
 use memory_run::layout::*;
 use rules_box::Watchdog;
 
-// Whether every number of memory and of the five is that of a clear, with the five numbers by value.
-fn blank_with(
-    sets: &Sets,
-    ends: &Ends,
-    rows: &Rows,
-    reach: &Reach,
-    paths: &Paths,
-    spans: &Spans,
-    aims: &Aims,
-    numbers: &Numbers,
-    run: &Run,
-    last: &Last,
-    w: Watchdog,
-) -> u32
-    ensures { IsBlank (shown_in sets ends rows reach paths spans aims numbers run last) w result }
-{
-    let blank = is_blank(
-        sets, ends, rows, reach, paths, spans, aims, numbers, run, last, w,
-    );
-    blank as u32
-}
-
 // Whether every number of memory and of the five is that of a clear.
 #[unsafe(no_mangle)]
 pub extern "C" fn spwd_c_is_blank(
@@ -48,9 +26,10 @@ pub extern "C" fn spwd_c_is_blank(
 ) -> u32
     ensures { IsBlank (shown_in sets ends rows reach paths spans aims numbers run last) watchdog.now result }
 {
-    blank_with(
+    let blank = is_blank(
         sets, ends, rows, reach, paths, spans, aims, numbers, run, last, *watchdog,
-    )
+    );
+    blank as u32
 }
 
 // Whether the file is accepted and the box holds its plan. The memory beside the box's has the file's plan afterwards.

@@ -26,34 +26,9 @@ pub extern "C" fn spwd_c_clear(
 )
     ensures { ClearLeaves (left_in sets ends rows reach paths spans aims numbers run last) watchdog.new }
 {
-    *watchdog = clear(
-        sets, ends, rows, reach, paths, spans, aims, numbers, run, last,
+    clear(
+        sets, ends, rows, reach, paths, spans, aims, numbers, run, last, watchdog,
     );
-}
-
-// A load with the verdict as numbers, and the five numbers as the answer.
-fn load_with(
-    file: &[u8],
-    sets: &mut Sets,
-    ends: &mut Ends,
-    rows: &mut Rows,
-    reach: &mut Reach,
-    paths: &mut Paths,
-    spans: &mut Spans,
-    aims: &mut Aims,
-    numbers: &mut Numbers,
-    run: &mut Run,
-    last: &mut Last,
-    verdict: &mut [u32; 5],
-) -> Watchdog
-    ensures { Loads file.now (left_in sets ends rows reach paths spans aims numbers run last) result verdict.new }
-{
-    let done = load(
-        file, sets, ends, rows, reach, paths, spans, aims, numbers, run, last,
-    );
-    let judged = done.verdict;
-    *verdict = numbers_of(judged);
-    done.watchdog
 }
 
 // The verdict on a file: the box holds its plan, or is that of a clear.
@@ -75,7 +50,8 @@ pub extern "C" fn spwd_c_load(
 )
     ensures { Loads file.now (left_in sets ends rows reach paths spans aims numbers run last) watchdog.new verdict.new }
 {
-    *watchdog = load_with(
-        file, sets, ends, rows, reach, paths, spans, aims, numbers, run, last, verdict,
+    let judged = load(
+        file, sets, ends, rows, reach, paths, spans, aims, numbers, run, last, watchdog,
     );
+    *verdict = numbers_of(judged);
 }

@@ -2,7 +2,7 @@
 ghost use Rattle.spwd_c.specs.Exports.{SheetTold};
 
 use c_numbers::sheet::sheet_numbers;
-use time_sheet::sheet;
+use time_sheet::{Latencies, sheet};
 
 // What a transaction takes, whatever the numbers are. It is lent no box.
 #[unsafe(no_mangle)]
@@ -16,14 +16,11 @@ pub extern "C" fn spwd_c_sheet(
 )
     ensures { SheetTold command_routers reply_routers rate length latencies.now answer.new }
 {
-    *answer = sheet_numbers(sheet(
-        command_routers,
-        reply_routers,
-        rate,
-        length,
-        latencies[0],
-        latencies[1],
-        latencies[2],
-        latencies[3],
-    ));
+    let given = Latencies {
+        a: latencies[0],
+        d: latencies[1],
+        f: latencies[2],
+        g: latencies[3],
+    };
+    *answer = sheet_numbers(sheet(command_routers, reply_routers, rate, length, given));
 }

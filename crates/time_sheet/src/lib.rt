@@ -2,140 +2,156 @@
 // whatever the length. `out` is how many routers the command crosses, `home` how many the reply does.
 #![tactic(auto)]
 
-ghost use Rattle.std.specs.Prelude.{◌≡◌, false, ◌-◌, ◌*◌, ◌≤◌};
-ghost use Rattle.rules_plan.specs.Sheet.{quotient_up, reply_address, crossing, header, data_time, reply_time, fixed_time, times_out_of_range, no_sheet, sheet_answer};
-ghost use Rattle.rules_plan.specs.laws.Sheets.{TimesRange};
-ghost use Rattle.time_sheet.specs.Paced.{paced};
+ghost use Rattle.std.specs.Prelude.{◌≡◌, ◌-◌, ◌*◌, ◌≤◌};
+ghost use Rattle.rules_plan.specs.Sheet.{quotient_up, reply_address, crossing, header, data_time, reply_time, sheet, fixed_time, sheet_told, sheet_answer};
+ghost use Rattle.time_sheet.specs.Paced.{timed, in_range};
 
-use rules_plan::Sheet;
+use rules_plan::{Fault, Terms};
+use std::marker::Model;
 
 // The greatest latency and slot length.
 pub const MOST_TIME: u32 = 1_000_000;
 
+// "four given latencies (a, d, f, g)"
+#[derive(Clone, Copy)]
+pub struct Latencies {
+    pub a: u32,
+    pub d: u32,
+    pub f: u32,
+    pub g: u32,
+}
+
+// A rate and latencies that are in range. Contracts see the times of a plan with no slot length.
+#[derive(Clone, Copy)]
+pub struct Pace {
+    rate: u32,
+    given: Latencies,
+}
+
+impl Model for Pace {
+    ghost use Rattle.rules_plan.specs.Plan.{Times};
+    ghost use Rattle.rules_plan.specs.laws.Sheets.{TimesRange};
+    ghost use Rattle.time_sheet.specs.Paced.{paced};
+
+    ghost Value = { Times };
+
+    ghost view = { λ p. paced p.rate p.given.a p.given.d p.given.f p.given.g };
+
+    ghost invariant = { λ p. TimesRange (paced p.rate p.given.a p.given.d p.given.f p.given.g) };
+
+    ghost inverse = { λ x. record { rate = x.rate; given = record { a = x.a; d = x.d; f = x.f; g = x.g } } };
+}
+
 // "each term rounded up"
 fn quotient_up(n: u32, s: u32) -> u32
-    requires { (1 ≤ s) × (s ≤ 400) × (n ≤ 1_000_000_000) }
+    requires { 1 ≤ s }
     ensures { (result ≡ quotient_up n s) × (result ≤ n) }
 {
-    (n + (s - 1)) / s
+    n.div_ceil(s)
 }
 
 // "P the least multiple of 4 not below R"
 fn reply_address(home: u8) -> u32
     ensures { (result ≡ reply_address home) × (result ≤ 256) }
 {
-    (home as u32 + 3) / 4 * 4
+    u32::from(home).div_ceil(4) * 4
 }
 
 // (b) and (h)
 fn crossing_time(routers: u8) -> u32
     ensures { (result ≡ crossing routers) × (result ≤ 153_000) }
 {
-    600 * routers as u32
-}
-
-// (c)
-fn header_time(rate: u32, out: u8, home: u8) -> u32
-    requires { (1 ≤ rate) × (rate ≤ 400) }
-    ensures { (result ≡ header rate out home) × (result ≤ 5_270_000) }
-{
-    quotient_up(10_000 * (out as u32 + 16 + reply_address(home)), rate)
-}
-
-// (e)
-fn data_time(rate: u32, length: u16) -> u32
-    requires { (1 ≤ rate) × (rate ≤ 400) }
-    ensures { (result ≡ data_time rate length) × (result ≤ 655_360_000) }
-{
-    quotient_up(10_000 * (length as u32 + 1), rate)
-}
-
-// (i)
-fn reply_time(rate: u32, home: u8) -> u32
-    requires { (1 ≤ rate) × (rate ≤ 400) }
-    ensures { (result ≡ reply_time rate home) × (result ≤ 2_630_000) }
-{
-    quotient_up(10_000 * (home as u32 + 8), rate)
+    600 * u32::from(routers)
 }
 
 // "R routers (links less one)"
 pub fn routers_over(links: u8) -> u8
     ensures { result ≡ links - 1 }
 {
-    if links == 0 {
-        return 0;
-    }
-    links - 1
+    links.saturating_sub(1)
 }
 
-// "S outside 2 to 400, or a latency … over 1,000,000"
-pub fn out_of_range(rate: u32, a: u32, d: u32, f: u32, g: u32) -> bool
-    ensures { result ≡ times_out_of_range (paced rate a d f g) }
-{
-    if rate < 2 {
-        return true;
+impl Pace {
+    // None for "S outside 2 to 400, or a latency … over 1,000,000".
+    pub fn new(rate: u32, given: Latencies) -> Option<Pace>
+        ensures { result ≡ in_range (timed rate given) }
+    {
+        if rate < 2
+            || 400 < rate
+            || MOST_TIME < given.a
+            || MOST_TIME < given.d
+            || MOST_TIME < given.f
+            || MOST_TIME < given.g
+        {
+            return None;
+        }
+        Some(Pace { rate, given })
     }
-    if 400 < rate {
-        return true;
+
+    // (c)
+    fn header_time(self, out: u8, home: u8) -> u32
+        ensures { (result ≡ header self.rate out home) × (result ≤ 5_270_000) }
+    {
+        quotient_up(
+            10_000 * (u32::from(out) + 16 + reply_address(home)),
+            self.rate,
+        )
     }
-    if MOST_TIME < a {
-        return true;
+
+    // (e)
+    fn data_time(self, length: u16) -> u32
+        ensures { (result ≡ data_time self.rate length) × (result ≤ 655_360_000) }
+    {
+        quotient_up(10_000 * (u32::from(length) + 1), self.rate)
     }
-    if MOST_TIME < d {
-        return true;
+
+    // (i)
+    fn reply_time(self, home: u8) -> u32
+        ensures { (result ≡ reply_time self.rate home) × (result ≤ 2_630_000) }
+    {
+        quotient_up(10_000 * (u32::from(home) + 8), self.rate)
     }
-    if MOST_TIME < f {
-        return true;
+
+    // The terms that are worked out, and the sum with the latencies.
+    fn terms(self, out: u8, home: u8, length: u16) -> Terms
+        ensures { result ≡ record {
+          sum = sheet self out home length;
+          b = crossing out;
+          c = header self.rate out home;
+          e = data_time self.rate length;
+          h = crossing home;
+          i = reply_time self.rate home;
+        } }
+    {
+        let Latencies { a, d, f, g } = self.given;
+        let b = crossing_time(out);
+        let c = self.header_time(out, home);
+        let e = self.data_time(length);
+        let h = crossing_time(home);
+        let i = self.reply_time(home);
+        let sum = a + b + c + d + e + f + g + h + i;
+        Terms { sum, b, c, e, h, i }
     }
-    MOST_TIME < g
+
+    // The fixed time, all but the data term, multiplied by the rate: with it an event compares products and divides nothing (`fits-product`).
+    pub fn cost(self, out: u8, home: u8) -> u32
+        ensures { result ≡ self.rate * fixed_time self out home }
+    {
+        let rate = self.rate;
+        let Latencies { a, d, f, g } = self.given;
+        let there = crossing_time(out) + self.header_time(out, home);
+        let back = crossing_time(home) + self.reply_time(home);
+        rate * (there + back + a + d + f + g)
+    }
 }
 
-// "and so for the sheet by itself, also above 7 routers or 4,096 bytes"
-fn no_sheet(out: u8, home: u8, rate: u16, length: u16, a: u32, d: u32, f: u32, g: u32) -> bool
-    ensures { result ≡ no_sheet (paced rate a d f g) out home length }
+// The sheet of a transaction by itself. Whatever the numbers are, it is answered or refused: "and so for the sheet by itself, also above 7 routers
+// or 4,096 bytes".
+pub fn sheet(out: u8, home: u8, rate: u16, length: u16, given: Latencies) -> Result<Terms, Fault>
+    ensures { sheet_told result ≡ sheet_answer (timed rate given) out home length }
 {
-    if out_of_range(rate as u32, a, d, f, g) {
-        return true;
+    match Pace::new(u32::from(rate), given) {
+        Some(pace) if out <= 7 && home <= 7 && length <= 4096 => Ok(pace.terms(out, home, length)),
+        _ => Err(Fault::OutOfRange),
     }
-    if 7 < out {
-        return true;
-    }
-    if 7 < home {
-        return true;
-    }
-    4096 < length
-}
-
-// The terms that are worked out, and the sum with the latencies: the sheet, where nothing is refused.
-fn terms(out: u8, home: u8, rate: u32, length: u16, a: u32, d: u32, f: u32, g: u32) -> Sheet
-    requires { TimesRange (paced rate a d f g) }
-    ensures { no_sheet (paced rate a d f g) out home length ≡ false → result ≡ sheet_answer (paced rate a d f g) out home length }
-{
-    let b = crossing_time(out);
-    let c = header_time(rate, out, home);
-    let e = data_time(rate, length);
-    let h = crossing_time(home);
-    let i = reply_time(rate, home);
-    let sum = a + b + c + d + e + f + g + h + i;
-    Sheet::Terms { sum, b, c, e, h, i }
-}
-
-// The sheet of a transaction by itself. Whatever the numbers are, it is answered or refused.
-pub fn sheet(out: u8, home: u8, rate: u16, length: u16, a: u32, d: u32, f: u32, g: u32) -> Sheet
-    ensures { result ≡ sheet_answer (paced rate a d f g) out home length }
-{
-    if no_sheet(out, home, rate, length, a, d, f, g) {
-        return Sheet::NoSheet { number: 6 };
-    }
-    terms(out, home, rate as u32, length, a, d, f, g)
-}
-
-// The fixed time, all but the data term, multiplied by the rate: with it an event compares products and divides nothing (`fits-product`).
-pub fn cost(out: u8, home: u8, rate: u32, a: u32, d: u32, f: u32, g: u32) -> u32
-    requires { TimesRange (paced rate a d f g) }
-    ensures { result ≡ rate * fixed_time (paced rate a d f g) out home }
-{
-    let there = crossing_time(out) + header_time(rate, out, home);
-    let back = crossing_time(home) + reply_time(rate, home);
-    rate * (there + back + a + d + f + g)
 }

@@ -3,73 +3,46 @@
 // begins with no tag, which is text or another file by mistake.
 #![tactic(auto)]
 
-ghost use Rattle.std.specs.Prelude.{◌≡◌, ◌++◌, ◌≤◌, length, drop};
+ghost use Rattle.std.specs.Prelude.{◌≡◌, ◌++◌, ◌≤◌, IfOk, length, drop};
 ghost use Rattle.rules_plan.specs.Judge.{judge};
 ghost use Rattle.rules_plan.specs.Print.{line};
 
+use box_calls::memory::PlanMemory;
 use load_plan::load::load;
-use memory_plan::layout::*;
 use out_verdict::print::print_verdict;
+use std::io;
 use std::io::{Read, Write};
 
-// How much of standard input came, and whether a read failed.
-#[derive(Drop)]
-struct Input {
-    len: usize,
-    failed: bool,
-}
-
-// Reads until the buffer is full, the input ends or a read fails; a read may bring fewer bytes than there is room for.
-fn read_all(input: &mut impl Read, buf: &mut [u8]) -> Input
-    ensures { result.len ≤ length buf.new }
+// How many bytes came before the buffer was full or the input ended; a read may bring fewer bytes than there is room for.
+fn read_all(input: &mut impl Read, buf: &mut [u8]) -> io::Result<usize>
+    ensures { IfOk result (λ n. n ≤ length buf.new) }
 {
     let mut n = 0;
     while n < buf.len() {
-        let k = match input.read(&mut buf[n..]) {
-            Ok(k) => k,
-            Err(_) => {
-                return Input {
-                    len: n,
-                    failed: true,
-                };
-            }
-        };
+        let k = input.read(&mut buf[n..])?;
         if k == 0 {
-            return Input {
-                len: n,
-                failed: false,
-            };
+            break;
         }
         n += k;
     }
-    Input {
-        len: n,
-        failed: false,
-    }
+    Ok(n)
 }
 
 // The line of the verdict on a file, and its length.
 fn line_of(file: &[u8], out: &mut [u8; 40]) -> usize
     ensures { (result ≡ length (line (judge file.now))) × (out.new ≡ line (judge file.now) ++ drop (length (line (judge file.now))) out.old) × (result ≤ length out.new) }
 {
-    let mut sets = [0u64; SETS];
-    let mut ends = [0u8; ENDS];
-    let mut rows = [0u8; ROWS];
-    let mut reach = [0u64; ROWS];
-    let mut paths = [0u8; PATH_BYTES];
-    let mut spans = [0u8; CELLS];
-    let mut aims = [0u64; AIMS];
-    let mut numbers = [0u32; NUMBERS];
+    let mut m = PlanMemory::zeros();
     let verdict = load(
         file,
-        &mut sets,
-        &mut ends,
-        &mut rows,
-        &mut reach,
-        &mut paths,
-        &mut spans,
-        &mut aims,
-        &mut numbers,
+        &mut m.sets,
+        &mut m.ends,
+        &mut m.rows,
+        &mut m.reach,
+        &mut m.paths,
+        &mut m.spans,
+        &mut m.aims,
+        &mut m.numbers,
     );
     print_verdict(out, verdict)
 }
@@ -95,15 +68,13 @@ fn tell(errors: &mut impl Write, first: u8, written: bool) {
 // One byte more than a plan may have is read, so that a longer input is judged as too long.
 fn main(rt: HostRuntime) {
     let mut buf = [0u8; 16385];
-    let input = read_all(&mut rt.stdin(), &mut buf);
-    if input.failed {
+    let Ok(n) = read_all(&mut rt.stdin(), &mut buf) else {
         put(
             &mut rt.stderr(),
             b"verdict: standard input could not be read\n",
         );
         return;
-    }
-    let n = input.len;
+    };
     let mut out = [0u8; 40];
     let k = line_of(&buf[..n], &mut out);
     let written = put(&mut rt.stdout(), &out[..k]);

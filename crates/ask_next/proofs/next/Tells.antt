@@ -10,11 +10,9 @@ use Rattle.lists.specs.Search.{is_some}
 use Rattle.lists.specs.Numbers.{first_from}
 use Rattle.lists.specs.Place.{at_place}
 use Rattle.bitsets.specs.Set.{member}
-use Rattle.rules_plan.specs.declared.Next.{Next}
-use Rattle.rules_plan.specs.declared.Next.TheVariants.{NoTurn, Turn}
 use Rattle.rules_plan.specs.Plan.{Plan}
 use Rattle.rules_plan.specs.Meaning.{is_initiator, initiators, least_span, may_start}
-use Rattle.rules_plan.specs.Next.{next_turn, next_answer}
+use Rattle.rules_plan.specs.Next.{Next, NoTurn, Turn, next_turn, next_answer}
 use Rattle.rules_plan.specs.laws.Permitted.{permitted-short}
 use Rattle.rules_plan.specs.laws.Turns.{answered, next-answered}
 use Rattle.memory_plan.specs.Spans.{least_in_words}

@@ -5,7 +5,7 @@ use mathlib.Core.Logic.{◌≢◌, ◌⊎◌, inl, inr}
 use Prim.Native.Nat.{ℕ, ◌≤◌}
 use native.Mathlib.Omega.{arith}
 use native.Mathlib.Decide.{ℕ_discrete}
-use lib.ListN.{length, length-drop}
+use lib.ListN.{length-drop}
 use Rattle.lists.specs.Search.{find}
 use Rattle.lists.specs.laws.Bools.{not-both}
 use Rattle.lists.specs.laws.Parts.{from-to-end}
@@ -13,51 +13,15 @@ use Rattle.rules_plan.specs.Plan.{nth}
 use Rattle.rules_plan.specs.Fields.{tags, tag_of, as_device, as_link, as_entry, as_timing, as_times}
 use Rattle.rules_plan.specs.laws.Items.{no-replies}
 use Rattle.memory_plan.specs.Take.{entry_item, timing_item}
-use Rattle.load_fields.proofs.Taking.{reads_as, between, device-taken, link-taken, route-taken, entry-taken, timing-taken, times-taken, as-item}
+use Rattle.load_fields.proofs.Taking.{reads_as, sized-1, sized-2, sized-4, sized-5, sized-6, device-taken, link-taken, route-taken, entry-taken, timing-taken, times-taken, as-item}
 use Rattle.file_field.specs.laws.Tags.{none_allowed}
 use Rattle.load_fields.proofs.take_item.Lts as lts
 use Rattle.load_fields.proofs.take_item.Tie as tie
 use Rattle.load_fields.proofs.take_item.Reads as reads
 use Rattle.load_fields.proofs.take_item.Goals as goal
 
-abbrev At-match-keys1 : Type 0
-At-match-keys1 = lts.Past-At-match-keys1 tie.the-claims reads.Pre reads.Post
-
-abbrev At-match-keys2 : Type 0
-At-match-keys2 = lts.Past-At-match-keys2 tie.the-claims reads.Pre reads.Post
-
-abbrev At-match-keys3 : Type 0
-At-match-keys3 = lts.Past-At-match-keys3 tie.the-claims reads.Pre reads.Post
-
-abbrev At-match-keys4 : Type 0
-At-match-keys4 = lts.Past-At-match-keys4 tie.the-claims reads.Pre reads.Post
-
-abbrev At-match-keys5 : Type 0
-At-match-keys5 = lts.Past-At-match-keys5 tie.the-claims reads.Pre reads.Post
-
 abbrev At-match-rest : Type 0
 At-match-rest = lts.Past-At-match-rest tie.the-claims reads.Pre reads.Post
-
--- what each arm knows of the content's length
-sized-1 : (c : At-match-keys1) → 2 ≤ length c.args.content.now
-unfolding tag_of tags find
-sized-1 c = (between c.in-1.is refl _ c.requires).0
-
-sized-2 : (c : At-match-keys2) → 3 ≤ length c.args.content.now
-unfolding tag_of tags find
-sized-2 c = (between c.in-2.is refl _ c.requires).0
-
-sized-4 : (c : At-match-keys3) → 4 ≤ length c.args.content.now
-unfolding tag_of tags find
-sized-4 c = (between c.in-4.is refl _ c.requires).0
-
-sized-5 : (c : At-match-keys4) → 8 ≤ length c.args.content.now
-unfolding tag_of tags find
-sized-5 c = (between c.in-5.is refl _ c.requires).0
-
-sized-6 : (c : At-match-keys5) → 22 ≤ length c.args.content.now
-unfolding tag_of tags find
-sized-6 c = (between c.in-6.is refl _ c.requires).0
 
 -- a tag with an allowed length that is none of the five is 3 or 7
 route-tag : (c : At-match-rest) → (c.args.tag ≡ 3) ⊎ (c.args.tag ≡ 7)
@@ -77,48 +41,48 @@ route-tag c = go (ℕ_discrete _ 3) (ℕ_discrete _ 7)
         not-both c.requires (sym (none_allowed _ _ (λ l h. past _ g (none_left _ e g r.0.0.0.0.1 r.0.0.0.1 l) h r.0.0.1 r.0.1 r.1)))
 
 pub bounds-content-0 : goal.bounds-content-0
-bounds-content-0 c = omega (arith, sized-1 c.before.before.before)
+bounds-content-0 c = omega (arith, sized-1 _ _ c.in-1.is c.requires)
 
 pub bounds-content-1 : goal.bounds-content-1
-bounds-content-1 c = omega (arith, sized-1 c.before.before.before.before)
+bounds-content-1 c = omega (arith, sized-1 _ _ c.in-1.is c.requires)
 
 pub bounds-content-0-in-2 : goal.bounds-content-0-in-2
-bounds-content-0-in-2 c = omega (arith, sized-2 c.before.before.before.before)
+bounds-content-0-in-2 c = omega (arith, sized-2 _ _ c.in-2.is c.requires)
 
 pub bounds-content-1-in-2 : goal.bounds-content-1-in-2
-bounds-content-1-in-2 c = omega (arith, sized-2 c.before.before.before.before.before)
+bounds-content-1-in-2 c = omega (arith, sized-2 _ _ c.in-2.is c.requires)
 
 pub bounds-content-2 : goal.bounds-content-2
-bounds-content-2 c = omega (arith, sized-2 c.before.before.before.before.before.before)
+bounds-content-2 c = omega (arith, sized-2 _ _ c.in-2.is c.requires)
 
 pub bounds-content-0-in-4 : goal.bounds-content-0-in-4
-bounds-content-0-in-4 c = omega (arith, sized-4 c.before.before.before.before.before)
+bounds-content-0-in-4 c = omega (arith, sized-4 _ _ c.in-4.is c.requires)
 
 pub bounds-content-1-in-4 : goal.bounds-content-1-in-4
-bounds-content-1-in-4 c = omega (arith, sized-4 c.before.before.before.before.before.before)
+bounds-content-1-in-4 c = omega (arith, sized-4 _ _ c.in-4.is c.requires)
 
 pub bounds-content-2-in-4 : goal.bounds-content-2-in-4
-bounds-content-2-in-4 c = omega (arith, sized-4 c.before.before.before.before.before.before.before)
+bounds-content-2-in-4 c = omega (arith, sized-4 _ _ c.in-4.is c.requires)
 
 pub slice_bounds-entry-count : goal.slice_bounds-entry-count
-slice_bounds-entry-count c = omega (arith, sized-4 c.before.before.before.before.before.before.before)
+slice_bounds-entry-count c = omega (arith, sized-4 _ _ c.in-4.is c.requires)
 
 pub slice_bounds-entry-start : goal.slice_bounds-entry-start
-slice_bounds-entry-start c = omega (arith, sized-4 c.before.before.before.before.before.before.before)
+slice_bounds-entry-start c = omega (arith, sized-4 _ _ c.in-4.is c.requires)
 
 pub entry-requires : goal.entry-requires
 entry-requires c =
     let s = c.args.content.now in
-    rw (from-to-end 3 s) (omega (arith, length-drop 3 s, sized-4 c.before.before.before.before.before.before.before.before))
+    rw (from-to-end 3 s) (omega (arith, length-drop 3 s, sized-4 _ _ c.in-4.is c.requires))
 
 pub four_at-requires : goal.four_at-requires
-four_at-requires c = omega (arith, sized-5 c.before.before)
+four_at-requires c = omega (arith, sized-5 _ _ c.in-5.is c.requires)
 
 pub four_at-requires-in-5 : goal.four_at-requires-in-5
-four_at-requires-in-5 c = omega (arith, sized-5 c.before.before.before)
+four_at-requires-in-5 c = omega (arith, sized-5 _ _ c.in-5.is c.requires)
 
 pub take_times-requires : goal.take_times-requires
-take_times-requires c = sized-6 c.before.before
+take_times-requires c = sized-6 _ _ c.in-6.is c.requires
 
 pub take_route-requires : goal.take_route-requires
 take_route-requires c = (c.requires, route-tag c.before.before.before.before.before)

@@ -1,5 +1,6 @@
 -- A link after a plan: the verdict on it, and sets and ends with it, for each way that the code goes.
 use mathlib.Core.Path.{◌≡◌, refl, sym, ◌∙◌}
+use mathlib.Core.Logic.{◌⊎◌, inl, inr}
 use mathlib.Core.List.{List}
 use mathlib.Core.Bool.{Bool, true, false, ◌||◌, and-false}
 use Prim.Native.Nat.{ℕ, ◌+◌, ◌*◌, ◌^◌, ◌<◌, min, max}
@@ -47,13 +48,10 @@ module _ (sets ends : List ℕ) (x : Link) where
       known : (p : Plan) → Fair p → sets ≡ sets_of p → (n : ℕ) → n < 64 → (b : Bool) → member n u ≡ b → is_device p n ≡ b
       known p fair e n l b h = sym (joined n ∙ device-told p sets e fair.ranges n l) ∙ h
 
-      pub link-from-none : member x.one u ≡ false → LinkAnswer sets ends sets ends x 8
+      pub link-to-none : (member x.one u ≡ false) ⊎ (member x.other u ≡ false) → LinkAnswer sets ends sets ends x 8
       unfolding not_given
-      link-from-none h = refused 8 (λ p fair e. judged-8 p (link x) inside (given p e false new) (rw (known p fair e x.one range.one false h)))
-
-      pub link-to-none : member x.other u ≡ false → LinkAnswer sets ends sets ends x 8
-      unfolding not_given
-      link-to-none h =
+      link-to-none (inl h) = refused 8 (λ p fair e. judged-8 p (link x) inside (given p e false new) (rw (known p fair e x.one range.one false h)))
+      link-to-none (inr h) =
           refused 8 (λ p fair e. judged-8 p (link x) inside (given p e false new)
           (rw (known p fair e x.other range.other false h, and-false (is_device p x.one))))
 

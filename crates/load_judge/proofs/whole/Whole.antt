@@ -3,19 +3,15 @@ use mathlib.Core.Path.{◌≡◌, refl}
 use mathlib.Core.Logic.{◌≢◌}
 use mathlib.Core.List.Memᴰ
 use mathlib.Core.List.{List, [], ◌∷◌}
-use mathlib.Core.Option.{Option, none, some}
 use Prim.Native.Nat.{ℕ, ◌≤◌}
 use native.Mathlib.Omega.{arith}
 use Rattle.lists.specs.laws.Count.{none-counted}
-use Rattle.rules_plan.specs.declared.Verdict.{Verdict}
 use Rattle.rules_plan.specs.Plan.{nth, Timing, Plan, timing}
 use Rattle.rules_plan.specs.Good.{Good}
 use Rattle.rules_plan.specs.laws.Ranges.{timing-range}
 use Rattle.rules_plan.specs.laws.Items.{timing-in}
 use Rattle.rules_plan.specs.laws.Fair.{Fair}
 use Rattle.rules_plan.specs.laws.Size.{most-entries}
-use Rattle.rules_plan.specs.declared.Search.TheVariants.{Nothing, Found}
-use Rattle.rules_plan.specs.Verdict.{search_of}
 use Rattle.rules_plan.specs.Meaning.{greatest_of}
 use Rattle.memory_plan.specs.Memory.{numbers_with, numbers_of}
 
@@ -49,14 +45,3 @@ module _ (p : Plan) {w : List ℕ} (is : w ≡ numbers_of p) where
   pub few : Good p → (nth w 3 ≤ 128) × (nth w 4 ≤ 512)
   unfolding numbers_with
   few good = rw is (good.most, most-entries p good)
-
--- what a search answered
-pub found : (o : Option Verdict) {v : Verdict} → search_of o ≡ Found v → o ≡ some v
-unfolding search_of
-found none h = let z : ◌≡◌ {A = ℕ} 0 1 = cc in absurd (omega arith)
-found (some u) h = cc
-
-pub found_nothing : (o : Option Verdict) → search_of o ≡ Nothing → o ≡ none
-unfolding search_of
-found_nothing none h = refl
-found_nothing (some u) h = let z : ◌≡◌ {A = ℕ} 0 1 = cc in absurd (omega arith)

@@ -1,148 +1,76 @@
 -- `route_fault` meets its contract: each test says what the row of the table asks, read off the memory of the plan. Assumes nothing.
-use mathlib.Core.Path.{◌≡◌, sym, ◌∙◌}
-use mathlib.Core.Bool.{true, false, ◌&&◌, and-false}
-use Prim.Native.Nat.{ℕ}
-use native.Mathlib.Omega.{arith}
+use mathlib.Core.Path.{sym, ◌∙◌}
 use borrow.Author.Tests.{not-true, not-false}
-use Rattle.lists.specs.Search.{all}
-use Rattle.lists.specs.laws.Bools.{true-both}
-use Rattle.bitsets.specs.Set.{member, within_of}
-use Rattle.bitsets.specs.Laws.{within-listed}
-use Rattle.rules_plan.specs.Plan.{Route, Plan}
-use Rattle.rules_plan.specs.Meaning.{is_node, is_link}
-use Rattle.rules_plan.specs.Judge.{route_out_of_range}
-use Rattle.rules_plan.specs.laws.Ranges.{RouteRange, in-range}
-use Rattle.memory_plan.specs.Memory.{sets_of}
 use Rattle.load_path_faults.specs.Routes.{route}
-use Rattle.load_path_faults.proofs.RouteFaults.{links-inside, fault-6, fault-7, fault-8, fault-9, fault-10, fault-11, fault-none, node-read, links-read}
-use Rattle.load_path_faults.proofs.route_fault.Lts as lts
-use Rattle.load_path_faults.proofs.route_fault.Tie as tie
-use Rattle.load_path_faults.proofs.route_fault.Reads as reads
+use Rattle.load_path_faults.proofs.RouteFaults.{range-start, range-end, range-links, range-same, range-none, fault-6, fault-7, fault-8, fault-9, fault-10, fault-11, fault-none, start-none, end-none, links_none, links-known, known, start-low}
 use Rattle.load_path_faults.proofs.route_fault.Goals as goal
+use Rattle.load_path_faults.proofs.route_fault.Goals.{then-start-gt63-via-then-start-gt63, then-start-gt63-via-else-start-gt63+then-end-gt63, then-start-gt63-via-else-start-gt63+else-end-gt63+then-t, then-start-gt63-via-else-start-gt63+else-end-gt63+else-t+then-start-end}
+use Rattle.load_path_faults.proofs.route_fault.Goals.{then-not-has-via-then-not-has, then-not-has-via-else-not-has+then-not-has-2, then-not-has-via-else-not-has+else-not-has-2+then-not-within}
 
-abbrev After-route_range : Type 0
-After-route_range = lts.After-route_range tie.the-claims reads.Pre reads.Post tie.handed_clauses
+pub returns-then-start-gt63-clause-value : goal.returns-then-start-gt63-clause-value
+returns-then-start-gt63-clause-value c p f a b =
+    let x = c.args.asked.now in
+    let ls = c.args.links.now in
+    fault-6 p (route x.start x.end ls) _ _ _
+    (elim c.then-start-gt63.branch [
+      | then-start-gt63-via-then-start-gt63 w ↦ range-start x.start x.end ls w.if-start-gt63.true
+      | then-start-gt63-via-else-start-gt63+then-end-gt63 w ↦ range-end x.start x.end ls w.if-end-gt63.true
+      | then-start-gt63-via-else-start-gt63+else-end-gt63+then-t w ↦ range-links x.start x.end ls (sym c.trace-t.ensures.0 ∙ w.if-t.true)
+      | then-start-gt63-via-else-start-gt63+else-end-gt63+else-t+then-start-end w ↦ range-same x.start x.end ls w.if-start-end.true
+    ])
 
-abbrev At-Else1 : Type 0
-At-Else1 = lts.Else1 tie.the-claims reads.Pre reads.Post tie.handed_clauses
+pub returns-then-asked-clause-value : goal.returns-then-asked-clause-value
+returns-then-asked-clause-value c p f a b =
+    let x = c.args.asked.now in
+    let ls = c.args.links.now in
+    let r = route x.start x.end ls in
+    let inside = range-none x.start x.end ls c.if-start-gt63.false c.if-end-gt63.false (sym c.trace-t.ensures.0 ∙ c.if-t.false) c.if-start-end.false in
+    fault-7 p _ _ _ _ inside c.if-asked.true
 
-abbrev At-Else2 : Type 0
-At-Else2 = lts.Else2 tie.the-claims reads.Pre reads.Post tie.handed_clauses
+pub returns-then-not-has-clause-value : goal.returns-then-not-has-clause-value
+returns-then-not-has-clause-value c p f a b =
+    let x = c.args.asked.now in
+    let ls = c.args.links.now in
+    let r = route x.start x.end ls in
+    let inside = range-none x.start x.end ls c.if-start-gt63.false c.if-end-gt63.false (sym c.trace-t.ensures.0 ∙ c.if-t.false) c.if-start-end.false in
+    fault-8 p _ _ _ _ inside c.if-asked.false
+    (elim c.then-not-has.branch [
+      | then-not-has-via-then-not-has w ↦ start-none p a r inside c.trace-t.result.set c.trace-t.ensures.1 (sym c.has.ensures ∙ w.if-not-has.true)
+      | then-not-has-via-else-not-has+then-not-has-2 w ↦ end-none p a r inside c.trace-t.result.set c.trace-t.ensures.1 (sym w.has-else-not-has.ensures ∙ w.if-not-has-2.true)
+      | then-not-has-via-else-not-has+else-not-has-2+then-not-within w ↦ links_none p a r inside c.trace-t.result.set c.trace-t.ensures.1 (sym w.within.ensures ∙ w.if-not-within.true)
+    ])
 
-abbrev At-Else5 : Type 0
-At-Else5 = lts.Else5 tie.the-claims reads.Pre reads.Post tie.handed_clauses
+pub returns-then-asked-2-clause-value : goal.returns-then-asked-2-clause-value
+returns-then-asked-2-clause-value c p f a b =
+    let x = c.args.asked.now in
+    let ls = c.args.links.now in
+    let r = route x.start x.end ls in
+    let inside = range-none x.start x.end ls c.if-start-gt63.false c.if-end-gt63.false (sym c.trace-t.ensures.0 ∙ c.if-t.false) c.if-start-end.false in
+    fault-9 p _ _ _ _ inside c.if-asked.false (known p a r inside c.trace-t.result.set c.trace-t.ensures.1 (sym c.has.ensures ∙ c.if-not-has.false) (sym c.has-else-not-has.ensures ∙ c.if-not-has-2.false) (sym c.within.ensures ∙ c.if-not-within.false)) c.if-asked-2.true
 
--- the route that is judged
-judged : After-route_range → Route
-judged c = let a = c.args in route a.start a.end a.links.now
+pub returns-then-not-t-clause-value : goal.returns-then-not-t-clause-value
+returns-then-not-t-clause-value c p f a b =
+    let x = c.args.asked.now in
+    let ls = c.args.links.now in
+    let r = route x.start x.end ls in
+    let inside = range-none x.start x.end ls c.if-start-gt63.false c.if-end-gt63.false (sym c.trace-t.ensures.0 ∙ c.if-t.false) c.if-start-end.false in
+    fault-10 p _ _ _ _ inside c.if-asked.false (known p a r inside c.trace-t.result.set c.trace-t.ensures.1 (sym c.has.ensures ∙ c.if-not-has.false) (sym c.has-else-not-has.ensures ∙ c.if-not-has-2.false) (sym c.within.ensures ∙ c.if-not-within.false)) c.if-asked-2.false
+    (sym (c.trace-t.ensures.2 p f (start-low p a r inside c.trace-t.result.set c.trace-t.ensures.1) (links-known p a r inside c.trace-t.result.set c.trace-t.ensures.1 (sym c.within.ensures ∙ c.if-not-within.false)) a b) ∙ not-true _ c.if-not-t.true)
 
--- what the test of the range tells
-range-told : (c : After-route_range) → c.route_range.result ≡ route_out_of_range (judged c)
-unfolding judged
-range-told c = c.route_range.ensures c.args.links.now c.trace-t.ensures.0
+pub returns-then-asked-3-clause-value : goal.returns-then-asked-3-clause-value
+returns-then-asked-3-clause-value c p f a b =
+    let x = c.args.asked.now in
+    let ls = c.args.links.now in
+    let r = route x.start x.end ls in
+    let inside = range-none x.start x.end ls c.if-start-gt63.false c.if-end-gt63.false (sym c.trace-t.ensures.0 ∙ c.if-t.false) c.if-start-end.false in
+    fault-11 p _ _ _ _ inside c.if-asked.false (known p a r inside c.trace-t.result.set c.trace-t.ensures.1 (sym c.has.ensures ∙ c.if-not-has.false) (sym c.has-else-not-has.ensures ∙ c.if-not-has-2.false) (sym c.within.ensures ∙ c.if-not-within.false)) c.if-asked-2.false
+    (sym (c.trace-t.ensures.2 p f (start-low p a r inside c.trace-t.result.set c.trace-t.ensures.1) (links-known p a r inside c.trace-t.result.set c.trace-t.ensures.1 (sym c.within.ensures ∙ c.if-not-within.false)) a b) ∙ not-false _ c.if-not-t.false) c.if-asked-3.true
 
--- the route is in range
-ranged : (c : At-Else1) → route_out_of_range (judged c.before) ≡ false
-ranged c = sym (range-told c.before) ∙ c.if-route_range.false
-
-low : (c : At-Else1) → RouteRange (judged c.before)
-low c = in-range _ (ranged c)
-
--- what the set of its links tells: all of them are in another
-links-within : (c : At-Else1) (w : ℕ) → within_of c.trace-t.result.set w ≡ all (λ (n : ℕ). member n w) (judged c.before).links
-unfolding judged
-links-within c w = within-listed _ c.trace-t.result.set w (low c).links (c.trace-t.ensures.1 (links-inside _ _ _ (ranged c)))
-
--- behind row 8: the route was not given before, and its devices and links are known
-new : At-Else5 → At-Else2
-new c = c.before.before.before.before.before.before.before.before.before
-
-links-known : (c : At-Else5) (p : Plan) → (new c).args.sets.now ≡ sets_of p → all (is_link p) (judged (new c).before.before).links ≡ true
-unfolding judged new
-links-known c p a = let o = (new c).before in sym (links-read p a (low o).links) ∙ sym (links-within o _) ∙ sym c.within.ensures ∙ c.if-not-within.false
-
-known : (c : At-Else5) (p : Plan) → (new c).args.sets.now ≡ sets_of p
-    → let x = judged (new c).before.before in is_node p x.start && is_node p x.end && all (is_link p) x.links ≡ true
-unfolding judged new
-known c p a =
-    let o = (new c).before in
-    true-both
-    (true-both
-    (sym (node-read p a (low o).start) ∙ sym c.has.ensures ∙ c.if-not-has.false)
-    (sym (node-read p a (low o).end) ∙ sym c.has-2.ensures ∙ c.if-not-has-2.false))
-    (links-known c p a)
-
-pub returns-then-route_range : goal.returns-then-route_range
-unfolding judged
-returns-then-route_range c = record {
-  value = λ p f a b. fault-6 p _ _ _ _ (sym (range-told c.before.before) ∙ c.if-route_range.true);
-  again_value = λ e. absurd (omega arith);
-}
-
-pub returns-then-again : goal.returns-then-again
-unfolding judged
-returns-then-again c = record {
-  value = λ p f a b. fault-7 p _ _ _ _ (ranged c.before.before) c.if-again.true;
-  again_value = λ e. absurd (omega arith);
-}
-
-pub returns-then-not-has : goal.returns-then-not-has
-unfolding judged
-returns-then-not-has c =
-    record {
-      value = λ p f a b.
-          let z = sym (node-read p a (low c.before.before.before.before.before.before).start) ∙ sym c.has.ensures ∙ c.if-not-has.true in
-          fault-8 p _ _ _ _ (ranged c.before.before.before.before.before.before) c.if-again.false (rw z);
-      again_value = λ e. absurd (omega arith);
-    }
-
-pub returns-then-not-has-2 : goal.returns-then-not-has-2
-unfolding judged
-returns-then-not-has-2 c =
-    record {
-      value = λ p f a b.
-          let z = sym (node-read p a (low c.before.before.before.before.before.before.before.before).end) ∙ sym c.has-2.ensures ∙ c.if-not-has-2.true in
-          fault-8 p _ _ _ _ (ranged c.before.before.before.before.before.before.before.before) c.if-again.false (rw (z, and-false));
-      again_value = λ e. absurd (omega arith);
-    }
-
-pub returns-then-not-within : goal.returns-then-not-within
-unfolding judged
-returns-then-not-within c =
-    record {
-      value = λ p f a b.
-          let z = sym (links-read p a (low c.before.before.before.before.before.before.before.before.before.before.before).links) ∙ sym (links-within c.before.before.before.before.before.before.before.before.before.before.before _) ∙ sym c.within.ensures ∙ c.if-not-within.true in
-          fault-8 p _ _ _ _ (ranged c.before.before.before.before.before.before.before.before.before.before.before) c.if-again.false (rw (z, and-false));
-      again_value = λ e. absurd (omega arith);
-    }
-
-pub returns-then-many : goal.returns-then-many
-unfolding judged new
-returns-then-many c = record {
-  value = λ p f a b. fault-9 p _ _ _ _ (ranged (new c.before.before).before) (new c.before.before).if-again.false (known c.before.before p a) c.if-many.true;
-  again_value = λ e. absurd (omega arith);
-}
-
-pub returns-then-not-t : goal.returns-then-not-t
-unfolding judged new
-returns-then-not-t c =
-    let o = (new c.before.before.before.before).before in record {
-      value = λ p f a b. fault-10 p _ _ _ _ (ranged o) (new c.before.before.before.before).if-again.false (known c.before.before.before.before p a) c.if-many.false (sym (o.trace-t.ensures.2 p f (low o).start (links-known c.before.before.before.before p a) a b) ∙ not-true _ c.if-not-t.true);
-      again_value = λ e. absurd (omega arith);
-    }
-
-pub returns-then-alone : goal.returns-then-alone
-unfolding judged new
-returns-then-alone c =
-    let o = (new c.before.before.before.before.before).before in record {
-      value = λ p f a b. fault-11 p _ _ _ _ (ranged o) (new c.before.before.before.before.before).if-again.false (known c.before.before.before.before.before p a) c.if-many.false (sym (o.trace-t.ensures.2 p f (low o).start (links-known c.before.before.before.before.before p a) a b) ∙ not-false _ c.if-not-t.false) c.if-alone.true;
-      again_value = λ e. absurd (omega arith);
-    }
-
-pub returns : goal.returns
-unfolding judged new
-returns c =
-    let o = (new c.before.before.before.before.before).before in record {
-      value = λ p f a b. fault-none p _ _ _ _ (ranged o) (new c.before.before.before.before.before).if-again.false (known c.before.before.before.before.before p a) c.if-many.false (sym (o.trace-t.ensures.2 p f (low o).start (links-known c.before.before.before.before.before p a) a b) ∙ not-false _ c.if-not-t.false) c.if-alone.false;
-      again_value = λ e. ((new c.before.before.before.before.before).if-again.false, c.if-many.false, c.if-alone.false);
-    }
+pub returns-clause-value : goal.returns-clause-value
+returns-clause-value c p f a b =
+    let x = c.args.asked.now in
+    let ls = c.args.links.now in
+    let r = route x.start x.end ls in
+    let inside = range-none x.start x.end ls c.if-start-gt63.false c.if-end-gt63.false (sym c.trace-t.ensures.0 ∙ c.if-t.false) c.if-start-end.false in
+    fault-none p _ _ _ _ inside c.if-asked.false (known p a r inside c.trace-t.result.set c.trace-t.ensures.1 (sym c.has.ensures ∙ c.if-not-has.false) (sym c.has-else-not-has.ensures ∙ c.if-not-has-2.false) (sym c.within.ensures ∙ c.if-not-within.false)) c.if-asked-2.false
+    (sym (c.trace-t.ensures.2 p f (start-low p a r inside c.trace-t.result.set c.trace-t.ensures.1) (links-known p a r inside c.trace-t.result.set c.trace-t.ensures.1 (sym c.within.ensures ∙ c.if-not-within.false)) a b) ∙ not-false _ c.if-not-t.false) c.if-asked-3.false

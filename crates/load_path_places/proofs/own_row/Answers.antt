@@ -7,9 +7,6 @@ use Rattle.memory_plan.specs.Rows.{row_among}
 use Rattle.load_path_places.specs.laws.OwnRow.{old_row, old-array, made_row, made_array, old-count, new-count}
 use Rattle.load_path_places.proofs.own_row.Goals as goal
 
-pub overflow_cast-row : goal.overflow_cast-row
-overflow_cast-row c = omega arith
-
 pub returns-then-row-count : goal.returns-then-row-count
 returns-then-row-count c =
     let a = c.args in

@@ -1,7 +1,5 @@
--- `slot_links::lanes_in` meets its contract. The loop's invariant: the rows passed have their sets.
--- Assumes nothing.
+-- `lanes_in` meets its contract. The loop's invariant: the rows passed have their sets.
 use mathlib.Core.Path.{◌≡◌}
-use Prim.Native.Nat.{◌≤◌, ◌-◌}
 use lib.ListN.{length}
 use Rattle.rules_plan.specs.Plan.{Plan}
 use Rattle.load_slot_links.specs.Lanes.{Searched}
@@ -9,8 +7,4 @@ use Rattle.load_slot_links.specs.laws.Lanes.{Filled}
 use Rattle.load_slot_links.proofs.lanes_in.Given as goal
 
 abbrev pub invariant-loop-row : goal.invariant-loop-row
-invariant-loop-row l =
-    (l.row ≤ 8) × (length l.lanes ≡ 8) × ((p : Plan) → Searched p l.rows l.paths l.spans l.aims l.numbers → Filled p l.slot l.lanes l.row)
-
-abbrev pub decreases-loop-row : goal.decreases-loop-row
-decreases-loop-row l = 8 - l.row
+invariant-loop-row l = (length l.lanes ≡ 8) × ((p : Plan) → Searched p l.rows l.paths l.spans l.aims l.numbers → Filled p l.slot l.lanes l.row)

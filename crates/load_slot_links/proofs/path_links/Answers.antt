@@ -1,13 +1,8 @@
 -- `slot_links::path_links` meets its contract. Assumes nothing.
 use mathlib.Core.Path.{ap, ◌∙◌}
-use Prim.Native.Nat.{◌+◌, ◌*◌}
-use native.Mathlib.Omega.{arith}
 use Rattle.bitsets.specs.Set.{listed}
 use Rattle.load_slot_links.specs.laws.Paths.{links-part}
 use Rattle.load_slot_links.proofs.path_links.Goals as goal
-
-pub overflow_cast-paths : goal.overflow_cast-paths
-overflow_cast-paths c = omega (arith, c.shared_slice_known-2-1.given (c.args.k * 11 + 2))
 
 pub returns : goal.returns
 returns c l =

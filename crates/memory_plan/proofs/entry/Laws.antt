@@ -88,14 +88,6 @@ module _ (need slot : ℕ) where
   pub one-enough : 0 < need → need ≤ slot → 1 ≡ first_from 16 1 (λ (k : ℕ). leb need (k * slot))
   one-enough more h = just_enough 0 (omega arith) (omega arith) (omega arith)
 
--- one halving: on by the step, or not
-module _ (need slot k step : ℕ) where
-  pub halved-on : (k + step) * slot < need → Halved need slot k step (k + step)
-  halved-on h = (omega arith, λ low high. let twice : k + step + step ≡ k + 2 * step = omega arith in (h, rw twice high))
-
-  pub halved-stay : need ≤ (k + step) * slot → Halved need slot k step k
-  halved-stay h = (omega arith, λ low high. (low, h))
-
 -- by halves from 16
 pub by-halves : (need slot a b c d : ℕ) → 0 < need → need ≤ 16 * slot → Halved need slot 0 8 a → Halved need slot a 4 b → Halved need slot b 2 c → Halved need slot c 1 d
     → d + 1 ≡ first_from 16 1 (λ (k : ℕ). leb need (k * slot))
@@ -128,10 +120,3 @@ module _ (numbers : List ℕ) (row t n : ℕ) where
     pub words-timed : n ≤ 4096 → cost_in numbers row t ≢ 0 → first_from 16 1 (λ (k : ℕ). leb (10_000 * (n + 1) + cost_in numbers row t) (k * slot_in numbers)) ≡ least_in_words numbers row t n
     unfolding least_in_words fits_in_words
     words-timed h c = rw (ne_eqb (rate_in numbers) 0 timed, fits_in_words, le-leb n 4096 h, ne_eqb (cost_in numbers row t) 0 c)
-
-pub one_more : (n : ℕ) → bool_byte (eqb n 0) ≤ 1
-one_more n = go (eqb n 0)
-  where
-    go : (x : Bool) → bool_byte x ≤ 1
-    go true = omega arith
-    go false = omega arith

@@ -3,7 +3,7 @@ use Rattle.std.specs.Prelude.{◌≡◌, List, false, ℕ, eqb}
 use Rattle.std.proofs.Common.{sym, ap, ◌∙◌}
 use Rattle.std.proofs.lemmas.Bool.{eqb-false}
 use Rattle.rules_box.specs.declared.Event.{Event}
-use Rattle.rules_box.specs.declared.Answer.TheVariants.{Refused}
+use Rattle.rules_box.specs.Answer.{Refused}
 use Rattle.rules_box.specs.declared.Watchdog.{Watchdog}
 use Rattle.rules_box.specs.State.{Box}
 use Rattle.rules_box.specs.Refuse.{refusal}

@@ -11,11 +11,10 @@ use Rattle.lists.specs.Rows.{first_of}
 use Rattle.lists.specs.Puts.{Puts}
 use Rattle.lists.specs.laws.Append.{flat_append}
 use Rattle.lists.specs.laws.Stores.{put_front}
-use Rattle.rules_plan.specs.declared.Copied.TheVariants.{NotWritten, Written}
 use Rattle.rules_plan.specs.Plan.{nth, Timing, Times, Plan, blank, timing, times}
 use Rattle.rules_plan.specs.Fields.{field_for}
 use Rattle.rules_plan.specs.Canon.{canonical, items, written}
-use Rattle.rules_plan.specs.Copy.{copy_rows, copy_refusal, copy_answer, copied}
+use Rattle.rules_plan.specs.Copy.{NotWritten, Written, copy_rows, copy_refusal, copy_answer, copied}
 use Rattle.rules_plan.specs.Good.{Good}
 use Rattle.rules_plan.specs.laws.GoodSound.{good-sound}
 use Rattle.rules_plan.specs.laws.Copies.{no_room, answers-size, puts-bytes}

@@ -1,4 +1,4 @@
--- `writing_rows::no_span` meets its contract. The loop's invariant: the word joins the first j of the eight bytes. Assumes nothing.
+-- `no_span` meets its contract. Assumes nothing.
 use native.Mathlib.Omega.{arith}
 use borrow.Author.Rules.{rules}
 use borrow.Author.Tests.{eqb-true}
@@ -12,4 +12,4 @@ pub loop-j-preserved : goal.loop-j-preserved
 loop-j-preserved c = joined-next c.loop-j.invariant (search rules) c.wide.ensures.0 c.wide.ensures.1
 
 pub returns : goal.returns
-returns c = λ e s h. c.loop-j.invariant.none (eqb-true c.loop-j.word 0 e) s (omega (arith, c.loop-j-test.false))
+returns c = λ e s h. c.loop-j.invariant.none (eqb-true c.loop-j.word 0 e) s (omega arith)

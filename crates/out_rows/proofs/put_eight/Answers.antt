@@ -24,9 +24,6 @@ loop-j-preserved c =
     let next : (c.loop-j.j + 1) - n ≡ (c.loop-j.j - n) + 1 = omega (arith, c.loop-j.invariant.0) in
     (search rules, rw next (turns_next c.loop-j.invariant.1 (search rules) c.put_entry-k.auto.out (rw here c.put_entry-k.ensures)))
 
-pub shape_of-out : goal.shape_of-out
-shape_of-out c = c.loop-j.invariant.1.same
-
 pub returns : goal.returns
 unfolding eight_bytes
-returns c = turns-done c.loop-j.invariant.1 (search rules)
+returns c = turns-done c.loop-j.invariant.1 (omega arith)

@@ -6,6 +6,3 @@ use Rattle.out_rows.proofs.put_eight.Given as goal
 
 abbrev pub invariant-loop-j : goal.invariant-loop-j
 invariant-loop-j l = (l.n ≤ l.j) × Turns (λ (s : ℕ). entry_bytes l.rows l.spans l.aims (l.n + s)) 8 l.initial.out l.at l.out l.k (l.j - l.n)
-
-abbrev pub decreases-loop-j : goal.decreases-loop-j
-decreases-loop-j l = (l.n + 8) - l.j

@@ -1,10 +1,8 @@
--- `writing_rows::put_entries` meets its contract. The loop's invariant: the fields of the first n cells are put. Assumes nothing.
-use Prim.Native.Nat.{◌-◌}
-use Rattle.out_rows.proofs.Eights.{Eights}
+-- `put_entries` meets its contract. The loop's invariant: the fields of the eights so far are put. Assumes nothing.
+use Prim.Native.Nat.{ℕ, ◌*◌, ◌/◌}
+use Rattle.lists.specs.laws.Puts.{Turns}
+use Rattle.out_rows.specs.Out.{eight_bytes}
 use Rattle.out_rows.proofs.put_entries.Given as goal
 
-abbrev pub invariant-loop-n : goal.invariant-loop-n
-invariant-loop-n l = Eights l.rows l.spans l.aims l.cells l.initial.out l.at l.out l.k l.n
-
-abbrev pub decreases-loop-n : goal.decreases-loop-n
-decreases-loop-n l = l.cells - l.n
+abbrev pub invariant-loop-eight : goal.invariant-loop-eight
+invariant-loop-eight l = Turns (λ (r : ℕ). eight_bytes l.rows l.spans l.aims (8 * r)) (l.cells / 8) l.initial.out l.at l.out l.k l.eight

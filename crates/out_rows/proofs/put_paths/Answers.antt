@@ -1,4 +1,4 @@
--- `writing_rows::put_paths` meets its contract. The loop's invariant: the fields of the first n rows are put. Assumes nothing.
+-- `put_paths` meets its contract. Assumes nothing.
 use Rattle.out_rows.specs.Out.{row_bytes}
 use borrow.Author.Rules.{rules}
 use Rattle.lists.specs.laws.Puts.{turns-begin, turns_next, turns-done}
@@ -12,8 +12,5 @@ unfolding row_bytes
 loop-n-preserved c =
     turns_next c.loop-n.invariant (search rules) c.put_path-k.auto.out c.put_path-k.ensures
 
-pub shape_of-out : goal.shape_of-out
-shape_of-out c = c.loop-n.invariant.same
-
 pub returns : goal.returns
-returns c = turns-done c.loop-n.invariant c.loop-n-test.false
+returns c = turns-done c.loop-n.invariant (search rules)

@@ -12,7 +12,7 @@ use Rattle.replay.specs.Lines.{line_end}
 use Rattle.replay.specs.Gather.{Stand, stand, with_desk, kept_in, flushed, roomy, next, printing, Gathers, passed_over, Ends, over_long, Passes, Lines, more}
 
 module _ (d : Desk) where
-  pub flushed-before : d.failed ≡ true → record { count = d.count; watchdog = d.watchdog; gathered = 0; passing = d.passing; failed = true } ≡ flushed true d
+  pub flushed-before : d.failed ≡ true → record { count = d.count; watchdog = d.watchdog; gathered = 0; passing = d.passing; failed = d.failed } ≡ flushed d.failed d
   unfolding flushed
   flushed-before e = rw e
 

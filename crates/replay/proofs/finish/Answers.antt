@@ -1,9 +1,12 @@
 -- `replay::finish` meets its contract. Assumes nothing.
+use Rattle.std.proofs.Common.{arith}
 use Rattle.replay.proofs.Rounds.{finishes-nothing, finishes-last}
 use Rattle.replay.proofs.finish.Goals as goal
-
-pub returns-then-line-eq0 : goal.returns-then-line-eq0
-returns-then-line-eq0 c = finishes-nothing c.if-line-eq0.true c.flush.ensures
+use Rattle.replay.proofs.finish.Goals.{then-line-gt0, else-line-gt0}
 
 pub returns : goal.returns
-returns c = finishes-last c.if-line-eq0.false c.end_line-ended.ensures c.flush-2.ensures
+returns c =
+    elim c.if-line-gt0.branch [
+      | then-line-gt0 w ↦ rw (w.m-is, w.text-is, w.out-is) (finishes-last w.if-line-gt0.true w.end_line.ensures (rw w.d-is at c.flush.ensures))
+      | else-line-gt0 w ↦ rw (w.m-is, w.text-is, w.out-is) (finishes-nothing (omega (arith, w.if-line-gt0.false)) (rw w.d-is at c.flush.ensures))
+    ]

@@ -7,12 +7,12 @@ pub slice_bounds-answer_lines-end-2 : goal.slice_bounds-answer_lines-end-2
 slice_bounds-answer_lines-end-2 c = sym (length-take-le _ _ c.requires)
 
 pub shift-left-requires : goal.shift-left-requires
-shift-left-requires c = start-within c.args.input.now c.args.len c.answer_lines-rest.ensures c.requires
+shift-left-requires c = start-within c.args.input.now c.args.len c.answer_lines-start.ensures c.requires
 
 pub returns-then-left-input : goal.returns-then-left-input
 returns-then-left-input c =
-    taken-room c.args.input.now c.args.len c.answer_lines-rest.ensures c.shift-left.auto.s c.shift-left.ensures c.if-left-input.true
+    taken-room c.args.input.now c.args.len c.answer_lines-start.ensures c.shift-left.auto.s c.shift-left.ensures c.if-left-input.true
 
 pub returns : goal.returns
 returns c =
-    taken-full c.args.input.now c.args.len c.answer_lines-rest.ensures c.shift-left.auto.s c.shift-left.ensures c.if-left-input.false (c.pass_over-passed.ensures _)
+    taken-full c.args.input.now c.args.len c.answer_lines-start.ensures c.shift-left.auto.s c.shift-left.ensures c.if-left-input.false (c.pass_over.ensures _)

@@ -7,9 +7,11 @@ use Rattle.std.proofs.Math.Dec.{eqb}
 use Rattle.std.proofs.Common.{eqb-true, eq-eqb, ne_eqb}
 use Rattle.std.proofs.lemmas.Bool.{eqb-false}
 use Rattle.lists.specs.laws.Bools.{cond_cases}
+use Rattle.rules_plan.specs.declared.Refusal.{Refusal}
+use Rattle.rules_plan.specs.Numbers.{refusal_number}
 use Rattle.rules_box.specs.declared.Event.{Event}
 use Rattle.rules_box.specs.declared.Event.TheVariants.{TimeCode, Request, Reply, Reading}
-use Rattle.rules_box.specs.declared.Answer.TheVariants.{Refused}
+use Rattle.rules_box.specs.Answer.{Refused}
 use Rattle.rules_box.specs.declared.Watchdog.{Watchdog}
 use Rattle.rules_box.specs.State.{Box, Side, Live, the_plan}
 use Rattle.rules_box.specs.Refuse.{refusal}

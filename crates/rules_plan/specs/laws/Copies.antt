@@ -4,10 +4,9 @@ use Rattle.std.proofs.Math.Option.{some}
 use Rattle.std.proofs.Common.{lt-ltb, le-ltb}
 use Rattle.lists.specs.Search.{is_some}
 use Rattle.lists.specs.Rows.{first_of}
-use Rattle.rules_plan.specs.declared.Copied.TheVariants.{Written}
 use Rattle.rules_plan.specs.Plan.{Plan}
 use Rattle.rules_plan.specs.Canon.{written}
-use Rattle.rules_plan.specs.Copy.{bytes_of, copy_rows, copy_refusal, copy_answer, copied}
+use Rattle.rules_plan.specs.Copy.{Written, bytes_of, copy_rows, copy_refusal, copy_answer, copied}
 
 pub no_room : (room : ℕ) (p : Plan) → room < length (written p) → copy_refusal room (some p) ≡ 30
 unfolding copy_refusal copy_rows bytes_of first_of is_some

@@ -14,11 +14,9 @@ use Rattle.lists.specs.laws.Numbers.{Finds, any-true, first-from}
 use Rattle.lists.specs.laws.Sweep.{any_below_lem, first-here}
 use Rattle.lists.specs.Search.{is_some}
 use Rattle.lists.specs.Rows.{first_of}
-use Rattle.rules_plan.specs.declared.Next.{Next}
-use Rattle.rules_plan.specs.declared.Next.TheVariants.{NoTurn, Turn}
 use Rattle.rules_plan.specs.Plan.{Entry, Plan, blank}
 use Rattle.rules_plan.specs.Meaning.{is_initiator, permits, may_start, entry_at}
-use Rattle.rules_plan.specs.Next.{is_turn, slot_after, next_turn, next_rows, next_refusal, next_answer}
+use Rattle.rules_plan.specs.Next.{Next, NoTurn, Turn, is_turn, slot_after, next_turn, next_rows, next_refusal, next_answer}
 use Rattle.rules_plan.specs.Promises.{TurnAt}
 use Rattle.rules_plan.specs.laws.Sound.{Sound}
 use Rattle.rules_plan.specs.laws.Runs.{entry-at, found_at}

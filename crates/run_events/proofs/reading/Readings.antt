@@ -1,13 +1,12 @@
 -- A clock reading: no plan, overdue, or in time.
 use mathlib.Core.Path.{◌≡◌, refl, sym, ap, ◌∙◌}
-use mathlib.Core.Bool.{true, false}
+use mathlib.Core.Bool.{Bool, true, false, cond}
 use Prim.Native.Nat.{ℕ}
 use borrow.Author.Tests.{eqb-false}
 use Rattle.lists.specs.Search.{is_some}
 use Rattle.lists.specs.Rows.{first_of}
 use Rattle.rules_box.specs.declared.Event.TheVariants.{Reading}
-use Rattle.rules_box.specs.declared.Answer.{Answer}
-use Rattle.rules_box.specs.declared.Answer.TheVariants.{Refused, Told}
+use Rattle.rules_box.specs.Answer.{Answer, Refused, told_late}
 use Rattle.rules_box.specs.declared.Watchdog.{Watchdog}
 use Rattle.rules_box.specs.State.{Box, no_plan}
 use Rattle.rules_box.specs.Refuse.{refusal, refusals}
@@ -31,10 +30,6 @@ module _ (room : ℕ) (b : Box) (w : Watchdog) (clock : ℕ) where
     unfolding refusal refusals first_of no_plan
     accepted = step-accepted room b w (Reading clock) (rw loaded)
 
-    pub overdue : is_overdue w clock ≡ true → (v : Watchdog) → v ≡ told w → Gives (Told 1) v
+    pub told-late : (late : Bool) → late ≡ is_overdue w clock → (v : Watchdog) → v ≡ cond late (told w) w → Gives (told_late late) v
     unfolding accepts
-    overdue h v e = (rw (accepted, h), rw (accepted, h) e)
-
-    pub in-time : is_overdue w clock ≡ false → Gives (Told 0) w
-    unfolding accepts
-    in-time h = (rw (accepted, h), rw (accepted, h))
+    told-late late is v e = (rw (accepted, is), rw (accepted, ← is) e)

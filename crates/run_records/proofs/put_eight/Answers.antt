@@ -1,8 +1,7 @@
 -- `put_eight` meets its contract. Assumes nothing.
-use Rattle.std.proofs.Common.{rules}
-use Rattle.run_records.specs.Bytes.{bytes_of}
+use mathlib.Core.Path.{◌∙◌}
+use Rattle.run_records.proofs.Eight.{eight-is}
 use Rattle.run_records.proofs.put_eight.Goals as goal
 
 pub returns : goal.returns
-unfolding bytes_of
-returns c = search rules
+returns c = rw (c.to_le_bytes.ensures ∙ eight-is c.args.word c.ranges.word.fits) at c.put_bytes.ensures

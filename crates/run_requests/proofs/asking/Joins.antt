@@ -4,8 +4,7 @@ use mathlib.Core.List.{List}
 use Prim.Native.Nat.{ℕ, ◌≤◌, ◌<◌}
 use lib.ListN.{length}
 use borrow.Author.Tests.{le-leb, lt-leb}
-use Rattle.rules_box.specs.declared.Answer.{Answer}
-use Rattle.rules_box.specs.declared.Answer.TheVariants.{Refused, Joined}
+use Rattle.rules_box.specs.Answer.{Answer, Refused, Joined}
 use Rattle.memory_plan.specs.View.{Owner}
 use Rattle.rules_box.specs.State.{Side}
 use Rattle.rules_box.specs.Turn.{join}

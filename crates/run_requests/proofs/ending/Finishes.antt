@@ -9,8 +9,7 @@ use lib.Dec.{eqb}
 use borrow.Author.Tests.{eq-eqb, ne_eqb}
 use Rattle.lists.specs.Search.{is_some}
 use Rattle.lists.specs.laws.Bools.{not-both}
-use Rattle.rules_box.specs.declared.Answer.{Answer}
-use Rattle.rules_box.specs.declared.Answer.TheVariants.{Refused, Ended}
+use Rattle.rules_box.specs.Answer.{Answer, Refused, Ended}
 use Rattle.memory_plan.specs.View.{Owner}
 use Rattle.rules_box.specs.State.{Side, Live}
 use Rattle.rules_box.specs.Turn.{finish, class}

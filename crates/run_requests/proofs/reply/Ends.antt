@@ -12,8 +12,7 @@ use Rattle.rules_plan.specs.Plan.{Plan}
 use Rattle.rules_plan.specs.Meaning.{initiators}
 use Rattle.memory_plan.specs.View.{Timed, Owner, owner, owner_of}
 use Rattle.rules_box.specs.declared.Event.TheVariants.{Reply}
-use Rattle.rules_box.specs.declared.Answer.{Answer}
-use Rattle.rules_box.specs.declared.Answer.TheVariants.{Refused}
+use Rattle.rules_box.specs.Answer.{Answer, Refused}
 use Rattle.rules_box.specs.declared.Watchdog.{Watchdog}
 use Rattle.rules_box.specs.State.{Box, Side, no_plan, the_plan}
 use Rattle.rules_box.specs.Turn.{finish}
@@ -29,7 +28,7 @@ use Rattle.memory_plan.specs.laws.Found.{Rowed}
 use Rattle.memory_run.specs.laws.Found.{plan-by-row, is-initiator, its-row, no-initiator}
 use Rattle.memory_run.specs.laws.Refused.{refuses}
 use Rattle.ask_next.specs.Refused.{no_row}
-use Rattle.run_requests.proofs.no_row.Strangers.{refused-strange}
+use Rattle.run_requests.proofs.Strangers.{refused-strange}
 use Rattle.run_requests.specs.laws.Live.{no_number}
 
 module _
@@ -45,7 +44,7 @@ module _
     abbrev Gives : Answer → List ℕ → Type 0
     Gives r run' = Answers (step room b w (Reply i m status)) r run' last
 
-    pub stranger : 8 ≤ row → (r : Answer) → ((o : Option Plan) → Timed o numbers → r ≡ Refused (no_row o)) → Gives r run
+    pub stranger : 8 ≤ row → (n : ℕ) → ((o : Option Plan) → Timed o numbers → n ≡ no_row o) → Gives (Refused n) run
     unfolding refusal refusals first_of no_plan
     stranger h = refused-strange f room w (Reply i m status) by
       where

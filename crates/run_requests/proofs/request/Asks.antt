@@ -21,8 +21,7 @@ use Rattle.memory_plan.specs.Turns.{turns_in, Aimed, long_at}
 use Rattle.memory_plan.specs.laws.Costs.{least-told}
 use Rattle.memory_plan.specs.laws.Turns.{by-words, none-aimed, may-told}
 use Rattle.rules_box.specs.declared.Event.TheVariants.{Request}
-use Rattle.rules_box.specs.declared.Answer.{Answer}
-use Rattle.rules_box.specs.declared.Answer.TheVariants.{Refused}
+use Rattle.rules_box.specs.Answer.{Answer, Refused}
 use Rattle.rules_box.specs.declared.Watchdog.{Watchdog}
 use Rattle.rules_box.specs.State.{Box, Side, no_plan, the_plan}
 use Rattle.rules_box.specs.Turn.{join}
@@ -38,7 +37,7 @@ use Rattle.memory_plan.specs.laws.Found.{Rowed}
 use Rattle.memory_run.specs.laws.Found.{plan-by-row, is-initiator, its-row, no-initiator}
 use Rattle.memory_run.specs.laws.Refused.{refuses}
 use Rattle.ask_next.specs.Refused.{no_row, no_turn}
-use Rattle.run_requests.proofs.no_row.Strangers.{refused-strange}
+use Rattle.run_requests.proofs.Strangers.{refused-strange}
 
 module _
     {b : Box}
@@ -53,7 +52,7 @@ module _
     abbrev Gives : Answer → List ℕ → Type 0
     Gives r run' = Answers (step room b w (Request i t k n)) r run' last
 
-    pub stranger : 8 ≤ row → (r : Answer) → ((o : Option Plan) → Timed o numbers → r ≡ Refused (no_row o)) → Gives r run
+    pub stranger : 8 ≤ row → (m : ℕ) → ((o : Option Plan) → Timed o numbers → m ≡ no_row o) → Gives (Refused m) run
     unfolding refusal refusals first_of no_plan
     stranger h = refused-strange f room w (Request i t k n) by
       where

@@ -12,7 +12,7 @@ use Rattle.lists.specs.laws.Rows.{rise, no_row}
 use Rattle.lists.specs.laws.Stores.{put_front}
 use Rattle.memory_plan.specs.Memory.{spans_of, aims_of}
 use Rattle.rules_box.specs.declared.Event.TheVariants.{TimeCode}
-use Rattle.rules_box.specs.declared.Answer.TheVariants.{Refused, Recorded}
+use Rattle.rules_box.specs.Answer.{Refused, Recorded}
 use Rattle.rules_box.specs.declared.Watchdog.{Watchdog}
 use Rattle.rules_box.specs.State.{Box, the_plan}
 use Rattle.rules_box.specs.Refuse.{refusal, refusals}

@@ -1,12 +1,14 @@
 -- The visit of one initiator's entry: what starts, and which record is put.
 use mathlib.Core.Path.{◌≡◌, refl, ap, ◌∙◌}
+use Rattle.std.specs.Prelude.{Some, None}
 use mathlib.Core.List.{List, ◌++◌, flat_map}
 use mathlib.Core.Option.{Option, none, some}
-use mathlib.Core.Bool.{Bool, true, false}
+use mathlib.Core.Bool.{true, false}
 use Prim.Native.Nat.{ℕ}
+use Rattle.lists.specs.Options.{as_option}
 use Rattle.lists.specs.Search.{is_some}
 use Rattle.lists.specs.Puts.{Puts}
-use Rattle.lists.specs.laws.Bools.{not-both, is-some, not_some}
+use Rattle.lists.specs.laws.Bools.{is-some, not_some}
 use Rattle.lists.specs.laws.At.{at-member}
 use Rattle.lists.specs.laws.Place.{first_some_lem}
 use Rattle.lists.specs.laws.Puts.{puts_none}
@@ -19,11 +21,7 @@ use Rattle.rules_box.specs.laws.Fit.{FitRequest, FitSide}
 use Rattle.rules_box.specs.laws.Turns.{starting-elim}
 use Rattle.memory_run.specs.Run.{word_of, live_word, row_of}
 use Rattle.run_turns.specs.Turns.{started_of}
-use Rattle.run_turns.specs.declared.Turned.{Turned}
 use Rattle.run_records.specs.laws.One.{puts_one}
-
-one? : Turned → Bool
-one? r = r.one
 
 module _ (clock : ℕ) (n : Owner) (v : ℕ) (e : Entry) (s : Side) (f : FitSide s) where
   abbrev start : Option Start
@@ -44,23 +42,23 @@ module _ (clock : ℕ) (n : Owner) (v : ℕ) (e : Entry) (s : Side) (f : FitSide
       let (l, z) = is-some s.live h in
       (rw (h, starting) is, rw (h, starting, z) (puts_one clock (full 6 n.initiator v l.request) (puts l.request (f.live l z).request (w ∙ ap (live_word n) z))))
 
-  module _ (r : Turned) (is : r ≡ started_of n start) where
-    pub visit-start : r.one ≡ true → (before after : List ℕ) (j k : ℕ) → Shows 5 r.word before after j k → Puts before j shown after k
-    unfolding started_of one? start_record still_record
-    visit-start h before after j k puts = go start refl
-      where
-        go : (o : Option Start) → start ≡ o → Puts before j shown after k
-        go none g = not-both h (ap one? (is ∙ ap (started_of n) g))
-        go (some x) g =
-            let z = starting-elim n.plan (some e) s x g in
-            let at = (first_some_lem (allows n.plan x.entry) s.line x.found z.found).0 in
-            let m = at-member s.line x.found.place x.found.what at in
-            rw (g, z.free) (puts_one clock (full 5 n.initiator v x.found.what) (puts x.found.what (f.line x.found.what m) (ap (λ (y : Turned). y.word) (is ∙ ap (started_of n) g))))
+  pub visit-start : (word : ℕ) → Some word ≡ as_option (started_of n start) → (before after : List ℕ) (j k : ℕ) → Shows 5 word before after j k → Puts before j shown after k
+  unfolding started_of start_record still_record
+  visit-start word is before after j k puts = go start refl
+    where
+      go : (o : Option Start) → start ≡ o → Puts before j shown after k
+      go none g = let z = is ∙ ap (λ (y : Option Start). as_option (started_of n y)) g in absurd (cc)
+      go (some x) g =
+          let z = starting-elim n.plan (some e) s x g in
+          let at = (first_some_lem (allows n.plan x.entry) s.line x.found z.found).0 in
+          let m = at-member s.line x.found.place x.found.what at in
+          let y : Some word ≡ Some (word_of n x.found.what) = is ∙ ap (λ (y : Option Start). as_option (started_of n y)) g in
+          rw (g, z.free) (puts_one clock (full 5 n.initiator v x.found.what) (puts x.found.what (f.line x.found.what m) (cc)))
 
-    pub visit-nothing : r.one ≡ false → is_some s.live ≡ false → (before : List ℕ) (j : ℕ) → Puts before j shown before j
-    unfolding started_of one? start_record still_record flat_map
-    visit-nothing h free before j = go start refl
-      where
-        go : (o : Option Start) → start ≡ o → Puts before j shown before j
-        go none g = rw (g, not_some s.live free) (puts_none before j)
-        go (some x) g = not-both (ap one? (is ∙ ap (started_of n) g)) h
+  pub visit-nothing : None ≡ as_option (started_of n start) → is_some s.live ≡ false → (before : List ℕ) (j : ℕ) → Puts before j shown before j
+  unfolding started_of start_record still_record flat_map
+  visit-nothing is free before j = go start refl
+    where
+      go : (o : Option Start) → start ≡ o → Puts before j shown before j
+      go none g = rw (g, not_some s.live free) (puts_none before j)
+      go (some x) g = let z = is ∙ ap (λ (y : Option Start). as_option (started_of n y)) g in absurd (cc)

@@ -3,9 +3,7 @@ use mathlib.Core.Path.{◌≡◌}
 use mathlib.Core.List.{List, [], ◌∷◌}
 use Prim.Native.Nat.{ℕ}
 use lib.ListN.{take, drop}
-use Rattle.rules_plan.specs.declared.Copied.{Copied}
-use Rattle.rules_plan.specs.declared.Copied.TheVariants.{NotWritten, Written}
-use Rattle.rules_plan.specs.Copy.{sized}
+use Rattle.rules_plan.specs.Copy.{Copied, NotWritten, Written, sized}
 use Rattle.script_answers.specs.Texts.{bytes_line, out_line, Prints}
 
 module _ {l o : List ℕ} {k n : ℕ} {c : Copied} (buffer : List ℕ) where

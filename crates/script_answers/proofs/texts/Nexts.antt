@@ -2,9 +2,7 @@
 use mathlib.Core.Path.{◌≡◌}
 use mathlib.Core.List.{List, [], ◌∷◌}
 use Prim.Native.Nat.{ℕ}
-use Rattle.rules_plan.specs.declared.Next.{Next}
-use Rattle.rules_plan.specs.declared.Next.TheVariants.{NoTurn, Turn}
-use Rattle.rules_plan.specs.Next.{next_numbers}
+use Rattle.rules_plan.specs.Next.{Next, NoTurn, Turn, next_numbers}
 use Rattle.script_answers.specs.Texts.{numbers_line, next_line, Prints}
 
 module _ {l o : List ℕ} {k n : ℕ} {x : Next} where

@@ -2,9 +2,7 @@
 use mathlib.Core.Path.{◌≡◌}
 use mathlib.Core.List.{List, [], ◌∷◌}
 use Prim.Native.Nat.{ℕ}
-use Rattle.rules_plan.specs.declared.Sheet.{Sheet}
-use Rattle.rules_plan.specs.declared.Sheet.TheVariants.{NoSheet, Terms}
-use Rattle.rules_plan.specs.Sheet.{sheet_numbers}
+use Rattle.rules_plan.specs.Sheet.{Sheet, NoSheet, Terms, sheet_numbers}
 use Rattle.script_answers.specs.Texts.{numbers_line, sheet_line, Prints}
 
 module _ {l o : List ℕ} {k n : ℕ} {s : Sheet} where

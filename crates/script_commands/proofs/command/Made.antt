@@ -1,21 +1,23 @@
 -- A command by the words behind its name. Assumes nothing.
 use mathlib.Core.Path.{◌≡◌, refl, sym, ap, ◌∙◌}
 use mathlib.Core.List.{List, [], ◌∷◌}
-use mathlib.Core.Option.{none}
-use mathlib.Core.Bool.{Bool, true, false, not}
+use mathlib.Core.Option.{Option, none, some}
+use Rattle.std.specs.Prelude as prelude
+use Rattle.std.specs.Prelude.{Some, None}
+use mathlib.Core.Bool.{true, false}
 use Prim.Native.Nat.{ℕ, suc, ◌+◌, ◌≤◌, ◌<◌}
 use native.Mathlib.Omega.{arith}
 use lib.ListN.{length, get_or, take, drop, length-drop, drop_of_length-le}
-use lib.Seq.{drop-cons, take_all, get_or-take}
-use borrow.Author.Tests.{not-true, not-false}
+use lib.Seq.{drop-cons, take_all}
+use Rattle.lists.specs.Options.{as_option}
 use Rattle.lists.specs.Search.{is_some}
 use Rattle.lists.specs.laws.Bools.{none-some, not_some, is-some}
 use Rattle.script_words.specs.Words.{in_front, words_of, numbers_of}
-use Rattle.script_words.specs.Reading.{WordEnds, NumbersRead, behind_word}
+use Rattle.script_words.specs.Reading.{WordEnds, behind_word}
 use Rattle.script_words.specs.laws.Words.{in-word-begin, left_over, more-words}
+use Rattle.script_words.specs.laws.Numbers.{each-most}
 use Rattle.script_hex.specs.Hex.{bytes_of}
-use Rattle.script_commands.specs.declared.command.Kind.{Kind}
-use Rattle.script_commands.specs.declared.command.Kind.TheVariants as kind
+use Rattle.script_commands.specs.Kind.{Kind}
 use Rattle.script_commands.specs.declared.command.Command.{Command}
 use Rattle.script_commands.specs.declared.command.Command.TheVariants.{Bad}
 use Rattle.script_commands.specs.Script.{mosts, made, numbered, with_bytes, alone}
@@ -64,65 +66,24 @@ module _ (c : Command) where
     unfolding with_bytes
     some_bytes k n = rw (one_word k, (is-some (bytes_of s) n).1, with_bytes)
 
--- a command of numbers: of the cells only those count that were read
-made-of-read : (k : Kind) (cells : List ℕ) → made k (take (length (mosts k)) cells) ≡ made k cells
-unfolding made mosts
-made-of-read k cells = go k
-  where
-    cell : (n i : ℕ) → i < n → get_or (take n cells) i 0 ≡ get_or cells i 0
-    cell n i h = get_or-take n cells i 0 h
+-- a command of numbers, by what was read of the words
+none_read : {A : Type 0} (o : Option A) → None ≡ as_option o → o ≡ none
+none_read none e = refl
+none_read (some x) e = let z : ◌≡◌ {A = ℕ} 0 1 = cc e in absurd (omega arith)
 
-    go : (k : Kind) → made k (take (length (mosts k)) cells) ≡ made k cells
-    go kind.TimeCode = rw (cell 3 0 (omega arith), cell 3 1 (omega arith), cell 3 2 (omega arith))
-    go kind.Request = rw (cell 4 0 (omega arith), cell 4 1 (omega arith), cell 4 2 (omega arith), cell 4 3 (omega arith))
-    go kind.Reply = rw (cell 3 0 (omega arith), cell 3 1 (omega arith), cell 3 2 (omega arith))
-    go kind.Reading = rw (cell 1 0 (omega arith))
-    go kind.Out = rw (cell 1 0 (omega arith))
-    go kind.SetWatchdog = rw (cell 5 0 (omega arith), cell 5 1 (omega arith), cell 5 2 (omega arith), cell 5 3 (omega arith), cell 5 4 (omega arith))
-    go kind.Sheet =
-        rw (
-          cell 7 0 (omega arith),
-          cell 7 1 (omega arith),
-          cell 7 2 (omega arith),
-          cell 7 3 (omega arith),
-          cell 7 4 (omega arith),
-          cell 7 5 (omega arith),
-          cell 7 6 (omega arith),
-        )
-    go kind.SheetBoth =
-        rw (
-          cell 8 0 (omega arith),
-          cell 8 1 (omega arith),
-          cell 8 2 (omega arith),
-          cell 8 3 (omega arith),
-          cell 8 4 (omega arith),
-          cell 8 5 (omega arith),
-          cell 8 6 (omega arith),
-          cell 8 7 (omega arith),
-        )
-    go kind.Next = rw (cell 4 0 (omega arith), cell 4 1 (omega arith), cell 4 2 (omega arith), cell 4 3 (omega arith))
+some_read : {A : Type 0} (x : A) (o : Option A) → Some x ≡ as_option o → o ≡ some x
+some_read x none e = let z : ◌≡◌ {A = ℕ} 0 1 = cc e in absurd (omega arith)
+some_read x (some y) e = let z : y ≡ x = cc e in ap some z
 
-pub few : (k : Kind) → length (mosts k) ≤ 8
-unfolding mosts
-few kind.TimeCode = omega arith
-few kind.Request = omega arith
-few kind.Reply = omega arith
-few kind.Reading = omega arith
-few kind.Out = omega arith
-few kind.SetWatchdog = omega arith
-few kind.Sheet = omega arith
-few kind.SheetBoth = omega arith
-few kind.Next = omega arith
-
-module _ {ms cells₀ cells : List ℕ} {r : Bool} (k : Kind) (bounds : ms ≡ mosts k) where
-  pub numbers-bad : (ws : List (List ℕ)) → NumbersRead ms ws cells₀ cells r → not r ≡ true → Bad ≡ numbered k ws
+module _ (k : Kind) (ws : List (List ℕ)) {r : prelude.Option (List ℕ)} (read : r ≡ as_option (numbers_of (mosts k) ws)) where
+  pub no_numbers : r ≡ None → Bad ≡ numbered k ws
   unfolding numbered
-  numbers-bad ws f e = rw ((rw bounds at f).bad (not-true r e), numbered)
+  no_numbers e = rw (none_read (numbers_of (mosts k) ws) (sym e ∙ read), numbered)
 
-  module _ {j : Kind} (is : k ≡ j) where
-    pub in-bound : {ws : List (List ℕ)} → NumbersRead ms ws cells₀ cells r → not r ≡ false → (i : ℕ) → i < length (mosts j) → get_or cells i 0 ≤ get_or (mosts j) i 0
-    in-bound f e i h = (rw (bounds ∙ ap mosts is) at f).small i (not-false r e) h
+  module _ (ns : List ℕ) (e : r ≡ Some ns) where
+    pub in_bound : (i : ℕ) → i < length (mosts k) → get_or ns i 0 ≤ get_or (mosts k) i 0
+    in_bound i h = each-most (mosts k) ws ns i (some_read ns (numbers_of (mosts k) ws) (sym e ∙ read)) h
 
-    pub numbers-good : (ws : List (List ℕ)) → NumbersRead ms ws cells₀ cells r → not r ≡ false → made j cells ≡ numbered k ws
+    pub all_numbers : made k ns ≡ numbered k ws
     unfolding numbered
-    numbers-good ws f e = ap (λ (x : Kind). made x cells) (sym is) ∙ sym (made-of-read k cells) ∙ rw ((rw bounds at f).good (not-false r e), numbered)
+    all_numbers = rw (some_read ns (numbers_of (mosts k) ws) (sym e ∙ read), numbered)

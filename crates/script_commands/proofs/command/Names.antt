@@ -6,12 +6,14 @@ use Prim.Native.Nat.{ℕ, ◌<◌}
 use native.Mathlib.Omega.{arith}
 use lib.ListN.{length, get_or, take, drop}
 use borrow.Author.Tests.{eq-eqb, ne_eqb}
+use Rattle.std.specs.Prelude.{Option, Some, None}
+use Rattle.std.specs.Option.{unwrap_or}
 use Rattle.rules_plan.specs.Print.{text}
 use Rattle.script_words.specs.Words.{same}
 use Rattle.script_words.specs.Reading.{WordEnds, behind_word}
 use Rattle.script_commands.specs.declared.command.Command.{Command}
 use Rattle.script_commands.specs.declared.command.Command.TheVariants.{Skip, Bad}
-use Rattle.script_commands.specs.Script.{commands, named, of_words, command_of}
+use Rattle.script_commands.specs.Script.{or_bad, commands, named, of_words, command_of}
 
 -- the name that ends at a place is that of a row, and so are the words behind it read
 pub by_name : (line : List ℕ) (end : ℕ) (n : List ℕ) {x : Command} → take end line ≡ n → x ≡ named commands n (behind_word (drop end line))
@@ -42,3 +44,8 @@ pub some-command : (s : List ℕ) (end : ℕ) → 0 < length s → (get_or s 0 0
 unfolding command_of of_words
 some-command [] end h k w = absurd (omega arith)
 some-command (c ∷ cs) end h k w = rw (ne_eqb c 35 k, command_of, w.splits)
+
+-- what `unwrap_or` does is what the contracts say of none
+pub or-bad : (o : Option Command) → unwrap_or o Bad ≡ or_bad o
+or-bad None = refl
+or-bad (Some c) = refl

@@ -14,8 +14,8 @@ use Rattle.script_words.specs.Reading.{WordEnds, behind_word}
 use Rattle.script_words.specs.laws.Words.{same_true, first_word}
 use Rattle.script_words.specs.laws.Numbers.{each-most}
 use Rattle.script_hex.specs.Hex.{bytes_of}
-use Rattle.script_commands.specs.declared.command.Kind.{Kind}
-use Rattle.script_commands.specs.declared.command.Kind.TheVariants as kind
+use Rattle.script_commands.specs.Kind.{Kind}
+use Rattle.script_commands.specs.Kind as kind
 use Rattle.script_commands.specs.declared.command.Command.{Command}
 use Rattle.script_commands.specs.declared.command.Command.TheVariants.{Skip, Bad, Load, Clear, TimeCode, Request, Reply, Reading, Out, Watchdog, SetWatchdog, Sheet, Next, Blank, Holds}
 use Rattle.script_commands.specs.Script.{mosts, made, numbered, with_bytes, alone, Row, commands, named, of_words, command_of}

@@ -8,9 +8,9 @@ use Prim.Native.Nat.{ℕ, ◌-◌, ◌≤◌}
 use lib.ListN.{length, take, drop, replicate}
 use Rattle.lists.specs.laws.Parts.{from-to-end}
 use Rattle.rules_plan.specs.Print.{text}
-use Rattle.rules_plan.specs.declared.Sheet as sheets
+use Rattle.rules_plan.specs.Sheet as sheets
 use Rattle.rules_plan.specs.Sheet.{sheet_answer}
-use Rattle.rules_plan.specs.declared.Next as nexts
+use Rattle.rules_plan.specs.Next as nexts
 use Rattle.memory_plan.specs.laws.Shown.{held-shown}
 use Rattle.ask_next.specs.Asked.{TellsNext}
 use Rattle.time_sheet.specs.Paced.{paced}

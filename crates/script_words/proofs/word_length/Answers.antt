@@ -1,19 +1,11 @@
--- `words::word_length` meets its contract. The loop's invariant: the first i bytes hold no space. Assumes nothing.
-use borrow.Author.Rules.{rules}
-use Rattle.script_words.specs.laws.Words.{in-word-begin}
-use Rattle.script_words.proofs.Split.{in-word-next, word-space, word-last}
+-- `word_length` meets its contract. Assumes nothing.
+use Rattle.std.proofs.Common.{rules, tests}
+use Rattle.std.proofs.lemmas.Iterator.{YieldsList-from_slice}
+use Rattle.std.proofs.lemmas.Iterator.Search.{position_from_yields_List}
+use Rattle.script_words.proofs.Split.{is_space, word-told}
 use Rattle.script_words.proofs.word_length.Goals as goal
 
-pub loop-i-init : goal.loop-i-init
-loop-i-init c = (search rules, in-word-begin c.args.s.now)
-
-pub returns-then-s-i-eq32 : goal.returns-then-s-i-eq32
-returns-then-s-i-eq32 c =
-    word-space c.args.s.now c.loop-i.i c.loop-i.invariant.1 (search rules) c.if-s-i-eq32.true
-
-pub loop-i-preserved : goal.loop-i-preserved
-loop-i-preserved c =
-    (search rules, in-word-next c.args.s.now c.loop-i.i c.loop-i.invariant.1 (search rules) c.if-s-i-eq32.false)
-
 pub returns : goal.returns
-returns c = word-last c.args.s.now c.loop-i.i c.loop-i.invariant.1 (search rules)
+returns c =
+    word-told c.args.s.now c.position.result
+    (position_from_yields_List is_space _ _ c.position.result c.position.ensures.ran (YieldsList-from_slice c.args.s.now cc) (λ x b q k. search (rules, tests))) c.unwrap_or.ensures

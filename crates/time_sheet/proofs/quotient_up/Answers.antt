@@ -1,9 +1,9 @@
--- `quotient_up` meets its contract. Assumes nothing.
-use Rattle.rules_plan.specs.Sheet.{quotient_up}
-use Rattle.time_sheet.proofs.Laws.{up-upto}
-use borrow.Author.Rules.{rules}
+-- `quotient_up` meets its contract: the library divides with the rest asked for. Assumes nothing.
+use Rattle.std.proofs.Common.{◌∙◌}
+use Rattle.time_sheet.proofs.Laws.{up-upto, div-up}
 use Rattle.time_sheet.proofs.quotient_up.Goals as goal
 
 pub returns : goal.returns
-unfolding quotient_up
-returns c = (search rules, up-upto _ _ (search rules))
+returns c =
+    let e = c.div_ceil.ensures ∙ div-up c.args.n c.args.s c.requires in
+    (e, rw e (up-upto c.args.n c.args.s c.requires))

@@ -1,8 +1,7 @@
--- `reply_address` meets its contract. Assumes nothing.
+use Rattle.std.proofs.Common.{arith}
 use Rattle.rules_plan.specs.Sheet.{reply_address}
-use borrow.Author.Rules.{rules}
 use Rattle.time_sheet.proofs.reply_address.Goals as goal
 
 pub returns : goal.returns
 unfolding reply_address
-returns c = search rules
+returns c = (omega arith, omega arith)

@@ -1,13 +1,20 @@
--- `sheet` meets its contract. Assumes nothing.
-use mathlib.Core.Path.{sym, ◌∙◌}
-use Rattle.time_sheet.proofs.Laws.{sheet-range, answer-refused}
+-- `sheet` meets its contract: times out of range, routers or a length over the most are refused. Assumes nothing.
+use Rattle.std.proofs.Common.{arith}
+use Rattle.time_sheet.proofs.Laws.{refused-over, refused-more, terms-are}
 use Rattle.time_sheet.proofs.sheet.Goals as goal
 
-pub returns-then-no_sheet : goal.returns-then-no_sheet
-returns-then-no_sheet c = answer-refused _ _ _ _ (sym c.no_sheet.ensures ∙ c.if-no_sheet.true)
+pub returns-in-Some : goal.returns-in-Some
+returns-in-Some c =
+    rw c.terms.ensures (terms-are _ _ _ _ (rw c.from.ensures at c.in-Some.ensures) (omega arith) (omega arith) (omega arith))
 
-pub terms-requires : goal.terms-requires
-terms-requires c = (sheet-range _ _ _ _ (sym c.no_sheet.ensures ∙ c.if-no_sheet.false)).times
+pub returns-in_default : goal.returns-in_default
+returns-in_default c = refused-more _ _ _ _ (rw c.from.ensures at c.in-Some.ensures) (λ o h l. omega arith)
 
-pub returns : goal.returns
-returns c = c.terms.ensures (sym c.no_sheet.ensures ∙ c.if-no_sheet.false)
+pub returns-in_default-2 : goal.returns-in_default-2
+returns-in_default-2 c = refused-more _ _ _ _ (rw c.from.ensures at c.in-Some.ensures) (λ o h l. omega arith)
+
+pub returns-in_default-3 : goal.returns-in_default-3
+returns-in_default-3 c = refused-more _ _ _ _ (rw c.from.ensures at c.in-Some.ensures) (λ o h l. omega arith)
+
+pub returns-in_default-4 : goal.returns-in_default-4
+returns-in_default-4 c = refused-over _ _ _ _ (rw c.from.ensures at c.in_default.ensures)

@@ -1,12 +1,11 @@
 -- `c_numbers::sheet::sheet_numbers` meets its contract. Assumes nothing.
-use mathlib.Core.Path.{sym, ap}
 use Rattle.rules_plan.specs.Sheet.{sheet_numbers}
 use Rattle.c_numbers.proofs.sheet.sheet_numbers.Goals as goal
 
-pub returns-in-NoSheet : goal.returns-in-NoSheet
+pub returns-in-Ok : goal.returns-in-Ok
 unfolding sheet_numbers
-returns-in-NoSheet c = sym (ap sheet_numbers c.in-NoSheet.is)
+returns-in-Ok c = rw c.in-Ok.is
 
-pub returns-in-Terms : goal.returns-in-Terms
+pub returns-in-Err : goal.returns-in-Err
 unfolding sheet_numbers
-returns-in-Terms c = sym (ap sheet_numbers c.in-Terms.is)
+returns-in-Err c = rw (c.from.ensures, c.in-Err.is)

@@ -3,21 +3,23 @@
 -- Assumes nothing.
 use mathlib.Core.Path.{◌≡◌, sym, ap, ap₂, ◌∙◌}
 use mathlib.Core.List.{List}
-use mathlib.Core.Bool.{Bool, false, ◌&&◌, ◌||◌, and-true}
+use mathlib.Core.Bool.{true, false, ◌&&◌, ◌||◌, and-true}
 use Prim.Native.Nat.{ℕ, ◌+◌, ◌/◌, ◌%◌, ◌^◌, ◌≤◌, ◌<◌}
 use native.Mathlib.Nat.{div-one}
 use native.Mathlib.Omega.{arith}
 use lib.Bits.{bit_or}
+use Rattle.std.proofs.lemmas.Nat.{or_comm}
 use lib.Dec.{ltb}
 use lib.ListN.{length, get_or, take}
 use lib.Seq.{take_all}
-use borrow.Author.Rules.{rules}
-use borrow.Author.Tests.{lt-ltb}
+use borrow.Author.Tests.{lt-ltb, le-ltb}
 use Rattle.lists.specs.Search.{any, repeats, is_in, twice}
+use Rattle.lists.specs.Rows.{first_of}
 use Rattle.lists.specs.laws.Scan.{twice-next}
 use Rattle.bitsets.specs.Set.{member, alone, listed}
 use Rattle.bitsets.specs.Laws.{member-empty, member-or}
 use Rattle.rules_plan.specs.Judge.{over63}
+use Rattle.load_items.specs.Several.{several_fault}
 use Rattle.load_items.proofs.Gathers.{gathers-none, none_before, next_low, gathers-next, gathers-all}
 use Rattle.load_items.proofs.several.gather.Invariants.{Passed}
 use Rattle.load_items.proofs.several.gather.Goals as goal
@@ -40,26 +42,47 @@ module _ {s : List ℕ} {over again set k : ℕ} (h : k < length s) (p : Passed 
       moved_down n set l ∙ p.numbers.marks (none_before s k h e) n ∙ ap (λ b. is_in n (take k s) && b) (lt-ltb n 64 l) ∙ and-true _
 
   next : (bit : ℕ) → (get_or s k 0 < 64 → (j : ℕ) → member j bit ≡ alone (get_or s k 0) j)
-      → Passed s (bit_or over (get_or s k 0)) (bit_or again (set / 2 ^ (get_or s k 0 % 64))) (bit_or bit set) (k + 1)
+      → Passed s (bit_or over (get_or s k 0)) (bit_or again (set / 2 ^ (get_or s k 0 % 64))) (bit_or set bit) (k + 1)
   next bit a = record {
-    numbers = gathers-next h p.numbers bit a;
+    numbers = rw (or_comm set bit) (gathers-next h p.numbers bit a);
     repeat = λ e. member-or 0 again _ ∙ ap₂ (λ b c. b || c) (p.repeat (none_before s k h e)) (among e) ∙ sym (twice-next s k h);
   }
 
--- the whole list
-last : {s : List ℕ} {over again set k : ℕ} → length s ≤ k → Passed s over again set k → (b : Bool) → b ≡ member 0 again
-    → (ltb 63 over ≡ any over63 s) × (any over63 s ≡ false → (b ≡ twice s) × ((j : ℕ) → member j set ≡ listed s j))
-last {s} {over} {again} {set} {k} h p b e =
-    let (high, marks) = gathers-all h p.numbers in
-    let all : any over63 (take k s) ≡ any over63 s = ap (any over63) (take_all k s h) in
-    (high, λ f. (e ∙ p.repeat (all ∙ f) ∙ ap twice (take_all k s h), marks f))
+-- the whole list: row 6, row 7, or its set
+module _ {s : List ℕ} {over again set k : ℕ} (h : length s ≤ k) (p : Passed s over again set k) where
+  high : any over63 s ≡ ltb 63 over
+  high = sym (gathers-all h p.numbers).0
 
-pub loop-k-init : goal.loop-k-init
-loop-k-init c = first c.args.s.now
+  repeated : any over63 s ≡ false → member 0 again ≡ twice s
+  repeated e = p.repeat (ap (any over63) (take_all k s h) ∙ e) ∙ ap twice (take_all k s h)
 
-pub loop-k-preserved : goal.loop-k-preserved
-loop-k-preserved c =
-    next (search rules) c.loop-k.invariant c.bit_of-set.result c.bit_of-set.ensures
+  fault-6 : 63 < over → 6 ≡ several_fault s
+  unfolding several_fault first_of
+  fault-6 o = rw (high, lt-ltb 63 over o)
+
+  module _ (l : over ≤ 63) where
+    low : any over63 s ≡ false
+    low = high ∙ le-ltb 63 over l
+
+    fault-7 : member 0 again ≡ true → 7 ≡ several_fault s
+    unfolding several_fault first_of
+    fault-7 b = rw (low, sym (repeated low) ∙ b)
+
+    fault-none : member 0 again ≡ false → (0 ≡ several_fault s) × ((j : ℕ) → member j set ≡ listed s j)
+    unfolding several_fault first_of
+    fault-none b = (rw (low, sym (repeated low) ∙ b), (gathers-all h p.numbers).1 low)
+
+pub loop-n-init : goal.loop-n-init
+loop-n-init c = first c.args.s.now
+
+pub loop-n-preserved : goal.loop-n-preserved
+loop-n-preserved c = next c.loop-n-test.true c.loop-n.invariant c.bit_of-set.result c.bit_of-set.ensures
+
+pub returns-then-over-gt63 : goal.returns-then-over-gt63
+returns-then-over-gt63 c = (fault-6 c.loop-n-test.false c.loop-n.invariant c.if-over-gt63.true, _)
+
+pub returns-then-has : goal.returns-then-has
+returns-then-has c = (fault-7 c.loop-n-test.false c.loop-n.invariant c.if-over-gt63.false (sym c.has.ensures ∙ c.if-has.true), _)
 
 pub returns : goal.returns
-returns c = last (search rules) c.loop-k.invariant _ c.has.ensures
+returns c = fault-none c.loop-n-test.false c.loop-n.invariant c.if-over-gt63.false (sym c.has.ensures ∙ c.if-has.false)

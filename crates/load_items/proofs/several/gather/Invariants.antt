@@ -4,8 +4,8 @@
 use mathlib.Core.Path.{◌≡◌}
 use mathlib.Core.List.{List}
 use mathlib.Core.Bool.{false}
-use Prim.Native.Nat.{ℕ, ◌-◌}
-use lib.ListN.{length, take}
+use Prim.Native.Nat.{ℕ}
+use lib.ListN.{take}
 use Rattle.lists.specs.Search.{any, twice}
 use Rattle.bitsets.specs.Set.{member}
 use Rattle.rules_plan.specs.Judge.{over63}
@@ -17,8 +17,5 @@ pub record Passed (s : List ℕ) (over again set k : ℕ) : Type 0 where
   pub numbers : Gathers s over set k
   pub repeat : any over63 (take k s) ≡ false → member 0 again ≡ twice (take k s)
 
-abbrev pub invariant-loop-k : goal.invariant-loop-k
-invariant-loop-k l = Passed l.s l.over l.again l.set l.k
-
-abbrev pub decreases-loop-k : goal.decreases-loop-k
-decreases-loop-k l = length l.s - l.k
+abbrev pub invariant-loop-n : goal.invariant-loop-n
+invariant-loop-n l = Passed l.s l.over l.again l.set l.n-index

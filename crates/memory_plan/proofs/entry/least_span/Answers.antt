@@ -1,6 +1,5 @@
 -- `least_span` meets its contract. Assumes nothing.
 use mathlib.Core.Path.{◌∙◌}
-use native.Mathlib.Omega.{arith}
 use Rattle.memory_plan.proofs.entry.Laws.{words-untimed, words_long, words-no-path, words-timed}
 use Rattle.memory_plan.proofs.entry.least_span.Goals as goal
 
@@ -16,9 +15,6 @@ pub returns-then-cost-eq0 : goal.returns-then-cost-eq0
 returns-then-cost-eq0 c =
     let a = c.args in
     words-no-path a.numbers.now a.row a.target a.length c.if-numbers-eq0.false c.if-cost-eq0.true
-
-pub least_slots-requires : goal.least_slots-requires
-least_slots-requires c = omega (arith, c.need_of.ensures)
 
 pub returns : goal.returns
 returns c =

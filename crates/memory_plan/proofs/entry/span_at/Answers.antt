@@ -2,12 +2,15 @@
 use native.Mathlib.Omega.{arith}
 use Rattle.memory_plan.proofs.entry.Laws.{span-past-rows, span-past-slots, span-told}
 use Rattle.memory_plan.proofs.entry.span_at.Goals as goal
+use Rattle.memory_plan.proofs.entry.span_at.Goals.{then-row-ge-ROWS-via-then-row-ge-ROWS, then-row-ge-ROWS-via-else-row-ge-ROWS+then-slot-ge64}
 
 pub returns-then-row-ge-ROWS : goal.returns-then-row-ge-ROWS
-returns-then-row-ge-ROWS c p ok is = let a = c.args in span-past-rows p ok a.row a.slot (omega arith)
-
-pub returns-then-slot-ge64 : goal.returns-then-slot-ge64
-returns-then-slot-ge64 c p ok is = let a = c.args in span-past-slots p ok a.row a.slot (omega arith)
+returns-then-row-ge-ROWS c p ok is =
+    let a = c.args in
+    elim c.then-row-ge-ROWS.branch [
+      | then-row-ge-ROWS-via-then-row-ge-ROWS w ↦ span-past-rows p ok a.row a.slot w.if-row-ge-ROWS.true
+      | then-row-ge-ROWS-via-else-row-ge-ROWS+then-slot-ge64 w ↦ span-past-slots p ok a.row a.slot w.if-slot-ge64.true
+    ]
 
 pub returns : goal.returns
-returns c p ok is = let a = c.args in span-told p ok a.row a.slot (omega arith) (omega arith) a.spans.now is
+returns c p ok is = let a = c.args in span-told p ok a.row a.slot (omega (arith, c.if-row-ge-ROWS.false)) (omega (arith, c.if-slot-ge64.false)) a.spans.now is

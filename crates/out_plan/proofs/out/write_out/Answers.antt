@@ -1,21 +1,9 @@
 -- `write_out` meets its contract: memory with an interval of 0 holds no plan, and of a plan the seven kinds of fields are put one behind
 -- the other. Assumes nothing.
 use mathlib.Core.Path.{◌∙◌}
-use mathlib.Core.Logic.{◌≢◌}
-use Rattle.rules_plan.specs.Plan.{nth}
 use Rattle.out_plan.specs.laws.Parts.{out-puts}
 use Rattle.out_plan.specs.laws.Written.{refuses-20, refuses-30, writes}
-use Rattle.out_plan.proofs.out.write_out.Lts as lts
-use Rattle.out_plan.proofs.out.write_out.Tie as tie
-use Rattle.out_plan.proofs.out.write_out.Reads as reads
 use Rattle.out_plan.proofs.out.write_out.Goals as goal
-
-abbrev At-Else1 : Type 0
-At-Else1 = lts.Else1 tie.the-claims reads.Pre reads.Post tie.handed_clauses
-
--- behind the first test there is a plan
-loaded : (i : At-Else1) → nth i.args.numbers.now 1 ≢ 0
-loaded i = i.is_loaded.ensures.numbers_value.1 (i.if-not-is_loaded.false)
 
 pub returns-then-not-is_loaded : goal.returns-then-not-is_loaded
 returns-then-not-is_loaded c o reach =
@@ -25,7 +13,7 @@ returns-then-not-is_loaded c o reach =
 pub returns-then-out-size : goal.returns-then-out-size
 returns-then-out-size c o reach =
     let a = c.args in
-    refuses-30 a.sets.now a.ends.now a.rows.now reach a.paths.now a.spans.now a.aims.now a.numbers.now a.out.now (loaded c.before.before.before.before) c.if-out-size.true o
+    refuses-30 a.sets.now a.ends.now a.rows.now reach a.paths.now a.spans.now a.aims.now a.numbers.now a.out.now (c.is_loaded.ensures.numbers_value.1 (c.if-not-is_loaded.false)) c.if-out-size.true o
 
 pub shape_of-out : goal.shape_of-out
 shape_of-out c =
@@ -34,6 +22,6 @@ shape_of-out c =
 pub returns : goal.returns
 returns c o reach =
     let a = c.args in
-    writes a.sets.now a.ends.now a.rows.now reach a.paths.now a.spans.now a.aims.now a.numbers.now a.out.now (loaded c.before.before.before.before.before.before.before.before.before.before.before.before.before.before.before.before.before.before.before.before.before.before.before.before.before.before.before.before.before.before.before.before.before.before.before.before.before.before.before.before.before.before) c.if-out-size.false
+    writes a.sets.now a.ends.now a.rows.now reach a.paths.now a.spans.now a.aims.now a.numbers.now a.out.now (c.is_loaded.ensures.numbers_value.1 (c.if-not-is_loaded.false)) c.if-out-size.false
     (out-puts a.sets.now a.ends.now a.rows.now a.paths.now a.spans.now a.aims.now a.numbers.now
     c.put_devices-devices.ensures c.put_links-links.ensures c.at_most-count.ensures c.put_paths-routes.ensures c.at_most.ensures c.put_entries-entries.ensures c.put_timing-timing.ensures c.put_times-times.ensures c.put_paths.ensures) o

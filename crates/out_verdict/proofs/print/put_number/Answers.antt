@@ -14,6 +14,7 @@ pub returns : goal.returns
 unfolding spaced
 returns c =
     let a = c.args in
+    let digits = rw c.from.ensures at c.put_decimal.ensures in
     let n = decimal-length a.n (omega arith) in
-    let d = c.put_decimal.ensures.fitting (simp length-set (omega arith)) in
+    let d = digits.fitting (simp length-set (omega arith)) in
     (put_then (put_one a.out.now a.at 32) d, omega (arith, d.next))

@@ -1,4 +1,4 @@
--- `line::print::put_numbers` meets its contract. The loop's invariant: the first i numbers are put. Assumes nothing.
+-- `print::put_numbers` meets its contract. Assumes nothing.
 use mathlib.Core.List.{flat_map}
 use native.Mathlib.Omega.{arith}
 use lib.Seq.{take_all}
@@ -7,24 +7,17 @@ use Rattle.lists.specs.laws.Stores.{put-none, put_then, put-length, flat-more}
 use Rattle.rules_plan.specs.Print.{spaced, numbers}
 use Rattle.out_verdict.proofs.print.put_numbers.Goals as goal
 
-pub loop-i-init : goal.loop-i-init
+pub loop-n-init : goal.loop-n-init
 unfolding flat_map numbers
-loop-i-init c = (search rules, search rules, put-none c.args.out.now c.args.at)
+loop-n-init c = (search rules, put-none c.args.out.now c.args.at)
 
 pub put_number-k-requires : goal.put_number-k-requires
-put_number-k-requires c = omega (arith, put-length c.loop-i.invariant.2)
+put_number-k-requires c = omega (arith, put-length c.loop-n.invariant.1)
 
-pub loop-i-preserved : goal.loop-i-preserved
+pub loop-n-preserved : goal.loop-n-preserved
 unfolding numbers
-loop-i-preserved c =
-    let i = c.loop-i.i in
-    let ns = c.args.ns.now in
-    (search rules, search rules, rw (flat-more spaced ns i 0 (search rules)) (put_then c.loop-i.invariant.2 c.put_number-k.ensures.0))
-
-pub shape_of-out : goal.shape_of-out
-shape_of-out c = put-length c.loop-i.invariant.2
+loop-n-preserved c =
+    (omega (arith, c.put_number-k.ensures.1), rw (flat-more spaced c.args.ns.now c.loop-n.n-index 0 (search rules)) (put_then c.loop-n.invariant.1 c.put_number-k.ensures.0))
 
 pub returns : goal.returns
-returns c =
-    let ns = c.args.ns.now in
-    (rw (take_all c.loop-i.i ns (search rules)) at c.loop-i.invariant.2, search rules)
+returns c = (rw (take_all c.loop-n.n-index c.args.ns.now (search rules)) at c.loop-n.invariant.1, omega arith)

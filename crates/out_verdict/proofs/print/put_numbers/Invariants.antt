@@ -1,12 +1,9 @@
--- `line::print::put_numbers` meets its contract. The loop's invariant: the first i numbers are put. Assumes nothing.
-use Prim.Native.Nat.{◌+◌, ◌*◌, ◌-◌, ◌≤◌}
-use lib.ListN.{length, take}
+-- `print::put_numbers` meets its contract. The loop's invariant: the numbers so far are put. Assumes nothing.
+use Prim.Native.Nat.{◌+◌, ◌*◌, ◌≤◌}
+use lib.ListN.{take}
 use Rattle.lists.specs.Stores.{Put}
 use Rattle.rules_plan.specs.Print.{numbers}
 use Rattle.out_verdict.proofs.print.put_numbers.Given as goal
 
-abbrev pub invariant-loop-i : goal.invariant-loop-i
-invariant-loop-i l = (l.i ≤ length l.ns) × (l.k ≤ l.at + 6 * l.i) × Put l.initial.out l.at (numbers (take l.i l.ns)) l.out l.k
-
-abbrev pub decreases-loop-i : goal.decreases-loop-i
-decreases-loop-i l = length l.ns - l.i
+abbrev pub invariant-loop-n : goal.invariant-loop-n
+invariant-loop-n l = (l.k ≤ l.at + 6 * l.n-index) × Put l.initial.out l.at (numbers (take l.n-index l.ns)) l.out l.k

@@ -10,6 +10,6 @@ returns c =
     c.requires
     c.put-arg-1.given.0.1
     (search rules)
-    c.wrapping_add_u64-count.ensures.value
-    (rw c.part.ensures at c.put-gathered.ensures)
-    c.answer-answered.ensures
+    (search rules)
+    (rw c.part.ensures at c.put-d.ensures)
+    c.answer-end.ensures

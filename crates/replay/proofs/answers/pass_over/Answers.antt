@@ -10,9 +10,9 @@ pub returns : goal.returns
 returns c =
     λ _. passes-first
     c.if-d.false
-    c.make_room-ready.ensures
+    c.make_room.ensures
     c.put-arg-1.given.0.1
     (search rules)
-    c.wrapping_add_u64-count.ensures.value
-    (rw c.part.ensures at c.put-gathered.ensures)
+    (search rules)
+    (rw c.part.ensures at c.put-d.ensures)
     c.over_long-end.ensures

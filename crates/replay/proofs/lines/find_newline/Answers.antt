@@ -1,16 +1,14 @@
 -- `replay::lines::find_newline` meets its contract. The loop's invariant: the line ends where one would that began at place i. Assumes nothing.
-use Rattle.std.proofs.Common.{length, sym, refl, ◌∙◌, rules, eq-eqb, ne_eqb}
+use Rattle.std.proofs.Common.{length, ◌∙◌, rules, eq-eqb, ne_eqb}
 use Rattle.lists.specs.laws.Scan.{first-here, first_next, first-end}
 use Rattle.replay.specs.Lines.{is_newline}
+use Rattle.replay.proofs.lines.Scans.{told-below, told-none}
 use Rattle.replay.proofs.lines.find_newline.Goals as goal
-
-pub loop-i-init : goal.loop-i-init
-loop-i-init c = refl
 
 pub returns-then-s-i-eq10 : goal.returns-then-s-i-eq10
 returns-then-s-i-eq10 c =
     let s = c.args.s.now in
-    sym (c.loop-i.invariant ∙ first-here (is_newline s) (length s) c.loop-i.i (search rules) (eq-eqb _ 10 c.if-s-i-eq10.true))
+    told-below (c.loop-i.invariant ∙ first-here (is_newline s) (length s) c.loop-i.i (search rules) (eq-eqb _ 10 c.if-s-i-eq10.true)) (search rules)
 
 pub loop-i-preserved : goal.loop-i-preserved
 loop-i-preserved c =
@@ -20,4 +18,4 @@ loop-i-preserved c =
 pub returns : goal.returns
 returns c =
     let s = c.args.s.now in
-    sym (c.loop-i.invariant ∙ first-end (is_newline s) (length s) c.loop-i.i (search rules))
+    told-none (c.loop-i.invariant ∙ first-end (is_newline s) (length s) c.loop-i.i (search rules)) (search rules)

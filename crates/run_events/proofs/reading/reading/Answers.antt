@@ -1,23 +1,23 @@
 -- `reading` meets its contract. Assumes nothing.
 use mathlib.Core.Path.{sym, ◌∙◌}
-use Rattle.run_events.proofs.reading.Readings.{no-plan, overdue, in-time}
+use Rattle.run_events.proofs.reading.Readings.{no-plan, told-late}
 use Rattle.run_events.proofs.reading.reading.Goals as goal
 
 pub returns-then-not-is_loaded : goal.returns-then-not-is_loaded
 returns-then-not-is_loaded c =
     let a = c.args in
-    λ b t room. no-plan room b a.w a.clock (sym (c.is_loaded.ensures.value b.plan t) ∙ c.if-not-is_loaded.true)
+    λ b t room. no-plan room b a.w.now a.clock (sym (c.is_loaded.ensures.value b.plan t) ∙ c.if-not-is_loaded.true)
 
-pub returns-then-is_overdue : goal.returns-then-is_overdue
-returns-then-is_overdue c =
+pub returns-then-late : goal.returns-then-late
+returns-then-late c =
     let a = c.args in
     λ b t room.
-    overdue room b a.w a.clock (sym (c.is_loaded.ensures.value b.plan t) ∙ c.if-not-is_loaded.false)
-    (sym c.is_overdue.ensures ∙ c.if-is_overdue.true) c.told_of-told.result c.told_of-told.ensures
+    told-late room b a.w.now a.clock (sym (c.is_loaded.ensures.value b.plan t) ∙ c.if-not-is_loaded.false)
+    c.is_overdue-late.result c.is_overdue-late.ensures c.told_of.result (rw c.if-late.true c.told_of.ensures)
 
-pub returns : goal.returns
-returns c =
+pub returns-else-late : goal.returns-else-late
+returns-else-late c =
     let a = c.args in
     λ b t room.
-    in-time room b a.w a.clock (sym (c.is_loaded.ensures.value b.plan t) ∙ c.if-not-is_loaded.false)
-    (sym c.is_overdue.ensures ∙ c.if-is_overdue.false)
+    told-late room b a.w.now a.clock (sym (c.is_loaded.ensures.value b.plan t) ∙ c.if-not-is_loaded.false)
+    c.is_overdue-late.result c.is_overdue-late.ensures a.w.now (rw c.if-late.false)

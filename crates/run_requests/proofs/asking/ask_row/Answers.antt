@@ -14,13 +14,13 @@ returns-then-waiting c =
     let o = owner p a.initiator in
     full o s a.row.now a.target a.kind a.length is (omega (arith, c.waiting.ensures.1 o s f is))
 
-pub join_row-number-requires : goal.join_row-number-requires
-join_row-number-requires c = (search rules, omega (arith, c.waiting.ensures.0))
+pub join_row-requires : goal.join_row-requires
+join_row-requires c = (search rules, omega (arith, c.waiting.ensures.0))
 
 pub returns : goal.returns
 returns c =
     let a = c.args in
-    let j = c.join_row-number in
+    let j = c.join_row in
     λ p s f need is.
     let o = owner p a.initiator in
     let short : length s.line < 8 = omega (arith, c.waiting.ensures.1 o s f is) in

@@ -12,24 +12,20 @@ use Rattle.run_timecodes.proofs.late.report_late.Goals as goal
 pub loop-row-init : goal.loop-row-init
 loop-row-init c =
     let a = c.args in
-    (omega arith, c.requires.0, refl, omega arith, λ x. swept-begin a.clock x (λ n. aged a.in_sequence (x.side n)) (λ n. late_record a.in_sequence n a.v (x.side n).live) a.out.now a.at)
+    (c.requires.0, refl, omega arith, λ x. swept-begin a.clock x (λ n. aged a.in_sequence (x.side n)) (λ n. late_record a.in_sequence n a.v (x.side n).live) a.out.now a.at)
 
 pub loop-row-preserved : goal.loop-row-preserved
 loop-row-preserved c =
     let m = c.late_row-k in
     let a = c.args in
     let size = c.loop-row.row * 12 + 12 - c.loop-row.row * 12 in (
-      omega arith,
       search rules,
       search rules,
       search rules,
-      late-next a.clock a.v a.in_sequence c.loop-row.invariant.4 size (omega arith) (omega arith) m.new.row m.new.out m.result m.ensures.0,
+      late-next a.clock a.v a.in_sequence c.loop-row.invariant.3 size (omega arith) (omega arith) m.new.row m.new.out m.result m.ensures.0,
     )
-
-pub shape_of-out : goal.shape_of-out
-shape_of-out c = c.loop-row.invariant.2
 
 pub returns : goal.returns
 returns c =
     let a = c.args in
-    (late-done a.clock a.v a.in_sequence c.loop-row.invariant.4 (search rules), search rules)
+    (late-done a.clock a.v a.in_sequence c.loop-row.invariant.3 (search rules), search rules)

@@ -1,25 +1,19 @@
 -- `time_code` meets its contract. Assumes nothing.
-use mathlib.Core.Path.{sym, ◌∙◌}
-use native.Mathlib.Omega.{arith}
+use Rattle.std.proofs.Common.{rules, ◌≡◌, Err}
+use Rattle.rules_plan.specs.Numbers.{refusal_number}
+use Rattle.rules_plan.specs.laws.Numbers.{some-refusal}
 use Rattle.run_timecodes.proofs.time.Leaves.{handed, refused, accepted}
 use Rattle.run_timecodes.proofs.time.time_code.Goals as goal
 
-pub returns-then-number-ne0 : goal.returns-then-number-ne0
-returns-then-number-ne0 c =
-    let r = c.refuse-number in
+pub returns-in_err-refuse : goal.returns-in_err-refuse
+returns-in_err-refuse c =
     let a = c.args in
-    λ b rows f. refused f a.w a.byte a.clock a.records.now r.result (r.ensures.0 b f.plan.timed a.clock) c.if-number-ne0.true
-
-pub run_on-end-requires : goal.run_on-end-requires
-run_on-end-requires c = (c.refuse-number.ensures.1 c.if-number-ne0.false).0
-
-pub overflow_add-last : goal.overflow_add-last
-overflow_add-last c = omega (arith, (c.refuse-number.ensures.1 c.if-number-ne0.false).1)
+    let r = c.in_err-refuse.field-0.0 in
+    let e : c.from_residual.result ≡ Err r = search rules in
+    λ b rows f. rw e (refused f a.w.now a.byte a.clock a.records.now (refusal_number r) (c.in_err-refuse.ensures.tells b f.plan.timed a.clock) (some-refusal r))
 
 pub returns : goal.returns
 returns c =
-    let m = c.run_on-end in
-    let r = c.refuse-number in
     let a = c.args in
     λ b rows f.
-    accepted f a.w a.byte a.clock a.records.now (sym c.if-number-ne0.false ∙ r.ensures.0 b f.plan.timed a.clock) _ _ _ _ (m.ensures b rows _ (handed f)) c.fed_with.ensures
+    accepted f a.w.now a.byte a.clock a.records.now (c.in_ok-refuse.ensures.tells b f.plan.timed a.clock) _ _ _ _ (c.run_on-end.ensures b rows _ (handed f)) c.fed_with.ensures

@@ -14,24 +14,22 @@ returns-then-has_live c =
       omega (arith, put.1),
     )
 
-pub returns-then-start : goal.returns-then-start
-returns-then-start c =
-    let m = c.start_row-start in
+pub returns-in-Some : goal.returns-in-Some
+returns-in-Some c =
     let a = c.args in
-    let put = c.put_full-then-start.ensures in (
+    let put = c.put_full-in-Some.ensures in (
       λ o s small f is e t.
-          let z = m.ensures o s f is (sym (c.has_live.ensures o s f is) ∙ c.if-has_live.false) e t in
-          (z.1, visit-start a.clock o a.v e s f m.result z.0 c.if-start.true a.out.now _ a.at _ (λ x. put.0 o x small)),
+          let (starts, begins) = c.in-Some.ensures o s f is (sym (c.has_live.ensures o s f is) ∙ c.if-has_live.false) e t in
+          (begins, visit-start a.clock o a.v e s f c.in-Some.word starts a.out.now _ a.at _ (λ x. put.0 o x small)),
       omega (arith, put.1),
     )
 
-pub returns : goal.returns
-returns c =
-    let m = c.start_row-start in
+pub returns-in-None : goal.returns-in-None
+returns-in-None c =
     let a = c.args in (
       λ o s small f is e t.
           let free = sym (c.has_live.ensures o s f is) ∙ c.if-has_live.false in
-          let z = m.ensures o s f is free e t in
-          (z.1, visit-nothing a.clock o a.v e s f m.result z.0 c.if-start.false free a.out.now a.at),
+          let (starts, begins) = c.in-None.ensures o s f is free e t in
+          (begins, visit-nothing a.clock o a.v e s f starts free a.out.now a.at),
       omega arith,
     )

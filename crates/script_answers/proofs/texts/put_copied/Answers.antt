@@ -1,18 +1,18 @@
 -- `replies::texts::put_copied` meets its contract: the plan was written or not. Assumes nothing.
+use mathlib.Core.Path.{ap}
 use native.Mathlib.Omega.{arith}
 use lib.ListN.{length-take}
+use Rattle.rules_plan.specs.Copy.{copied_told}
 use Rattle.script_answers.proofs.texts.Copies.{refused-line, written-line}
 use Rattle.script_answers.proofs.texts.put_copied.Goals as goal
 
-pub put_bytes-requires-in-Written : goal.put_bytes-requires-in-Written
-put_bytes-requires-in-Written c = (omega arith, rw (c.part.ensures, length-take) (omega arith))
+pub put_bytes-requires : goal.put_bytes-requires
+put_bytes-requires c = (omega arith, rw (c.part.ensures, length-take) (omega arith))
 
-pub returns-in-NotWritten : goal.returns-in-NotWritten
-returns-in-NotWritten c =
-    let a = c.args in
-    refused-line a.buffer.now c.in-NotWritten.is c.put_bytes.ensures
+pub returns-in-Ok : goal.returns-in-Ok
+returns-in-Ok c =
+    written-line c.args.buffer.now (ap copied_told c.in-Ok.is) c.part.ensures c.put_bytes.ensures
 
-pub returns-in-Written : goal.returns-in-Written
-returns-in-Written c =
-    let a = c.args in
-    written-line a.buffer.now c.in-Written.is c.part.ensures c.put_bytes-in-Written.ensures
+pub returns-in-Err : goal.returns-in-Err
+returns-in-Err c =
+    refused-line c.args.buffer.now (ap copied_told c.in-Err.is) (rw c.from.ensures at c.put_bytes-in-Err.ensures)

@@ -7,6 +7,6 @@ pub returns-then-flag : goal.returns-then-flag
 unfolding flag_line text
 returns-then-flag c = rw c.if-flag.true c.put_word.ensures
 
-pub returns : goal.returns
+pub returns-else-flag : goal.returns-else-flag
 unfolding flag_line text
-returns c = rw c.if-flag.false c.put_word-2.ensures
+returns-else-flag c = rw c.if-flag.false c.put_word-else-flag.ensures

@@ -1,15 +1,17 @@
 -- `script::command::command_of` meets its contract. Assumes nothing.
 use mathlib.Core.Path.{◌∙◌}
 use native.Mathlib.Omega.{arith}
-use Rattle.script_commands.proofs.command.Names.{empty-line, remark, some-command}
+use borrow.Author.Rules.{rules}
+use Rattle.script_commands.proofs.command.Names.{empty-line, remark, some-command, or-bad}
 use Rattle.script_commands.proofs.command.command_of.Goals as goal
 
-pub returns-then-line-eq0 : goal.returns-then-line-eq0
-returns-then-line-eq0 c = empty-line c.args.line.now c.if-line-eq0.true
+pub returns-in-empty : goal.returns-in-empty
+returns-in-empty c = empty-line c.args.line.now (omega (arith, c.in-empty.len_below))
 
-pub returns-then-line-eq35 : goal.returns-then-line-eq35
-returns-then-line-eq35 c = remark c.args.line.now (omega arith) c.if-line-eq35.true
+pub returns-in-empty-2 : goal.returns-in-empty-2
+returns-in-empty-2 c = remark c.args.line.now (omega (arith, c.in-empty.len_at_least)) (search rules)
 
-pub returns : goal.returns
-returns c =
-    c.named.ensures ∙ some-command c.args.line.now c.word_length.result (omega arith) c.if-line-eq35.false c.word_length.ensures
+pub returns-in_default : goal.returns-in_default
+returns-in_default c =
+    c.unwrap_or.ensures ∙ or-bad c.named.result ∙ c.named.ensures
+    ∙ some-command c.args.line.now c.word_length.result (omega (arith, c.in_default.len_at_least)) (λ e. absurd (search rules)) c.word_length.ensures

@@ -16,12 +16,12 @@ slice_bounds-load-end c =
 
 pub slice_bounds-line-end : goal.slice_bounds-line-end
 slice_bounds-line-end c =
-    front-within (line c.load-done.result.verdict) (replicate 40 0) (length (line c.load-done.result.verdict)) c.print_verdict-n.ensures
+    front-within (line c.load-verdict.result) (replicate 40 0) (length (line c.load-verdict.result)) c.print_verdict-n.ensures
 
 pub slice_bounds-put-end-2 : goal.slice_bounds-put-end-2
 slice_bounds-put-end-2 c =
-    front-size (line c.load-done.result.verdict) (replicate 40 0) (length (line c.load-done.result.verdict)) c.print_verdict-n.ensures
+    front-size (line c.load-verdict.result) (replicate 40 0) (length (line c.load-verdict.result)) c.print_verdict-n.ensures
 
 pub returns : goal.returns
 returns c =
-    load-answers c.args.word.now c.file_room-file.ensures c.decode-size.ensures (replicate 40 0) (search rules) c.load-done.ensures c.print_verdict-n.ensures c.put-end.ensures
+    load-answers c.args.word.now c.file_room-file.ensures c.decode-size.ensures (replicate 40 0) (search rules) c.load-verdict.ensures c.print_verdict-n.ensures c.put.ensures

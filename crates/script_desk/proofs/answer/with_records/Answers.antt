@@ -12,4 +12,4 @@ step-requires c = omega (arith, lent-size 4_096 c.records_room-records.ensures c
 
 pub returns : goal.returns
 returns c =
-    λ sets ends reach paths. lent-zeros c.records_room-records.ensures c.requires (c.step.ensures sets ends reach paths)
+    lent-zeros c.records_room-records.ensures c.requires c.step.ensures

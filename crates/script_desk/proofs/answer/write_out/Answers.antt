@@ -17,5 +17,4 @@ put_copied-requires c = back-most 32_768 c.plan_room-buffer.ensures c.requires c
 
 pub returns : goal.returns
 returns c =
-    λ reach run last.
-    out-answers _ _ _ reach _ _ _ _ run last c.plan_room-buffer.ensures c.requires c.write_out-copied.auto.out (λ o. c.write_out-copied.ensures o reach) c.put_copied.ensures
+    out-answers _ _ _ _ _ _ _ _ c.args.m.now.run c.args.m.now.last c.plan_room-buffer.ensures c.requires c.write_out-copied.auto.out (λ o. c.write_out-copied.ensures o _) c.put_copied.ensures

@@ -1,0 +1,2 @@
+-- The lemmas that several of the proofs here need.
+pub mod Strangers
