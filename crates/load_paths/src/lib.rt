@@ -35,9 +35,14 @@ pub fn store_path(paths: &mut Paths, at: usize, initiator: u8, target: u8, links
     paths[at] = initiator;
     paths[at + PATH_TARGET] = target;
     paths[at + PATH_COUNT] = n as u8;
-    let first = at + PATH_LINKS;
-    paths[first..first + n].copy_from_slice(links);
-    paths[first + n..at + PATH].fill(0);
+    // Kept: no copy of a slice: the archive calls nothing of the C library but memset, and eight places are stored with no loop of copies (speed).
+    for k in 0..MOST_LINKS {
+        if k < n {
+            paths[at + PATH_LINKS + k] = links[k];
+        } else {
+            paths[at + PATH_LINKS + k] = 0;
+        }
+    }
 }
 
 // Keeps a path that has no fault: no entry, no times and no reply are there yet.
