@@ -30,6 +30,6 @@ pub fn wide(x: u8) -> usize
 pub fn part(file: &[u8], start: usize, size: usize) -> &[u8]
     ensures { result.now ≡ take size (drop start file.now) }
 {
-    let rest = &file[start.min(file.len())..];
-    &rest[..size.min(rest.len())]
+    let rest = file.get(start..).unwrap_or(&[]);
+    rest.get(..size).unwrap_or(rest)
 }
