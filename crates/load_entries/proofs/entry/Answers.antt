@@ -23,8 +23,8 @@ returns-in_err-aimed c =
     let m = lent a.sets.now a.rows.now a.reach.now a.spans.now a.aims.now a.numbers.now in
     let x = asked a.initiator a.slot a.span a.targets.now in
     let p = err_from_is_err_and c.from_residual.result c.from_residual.ensures.1 in
-    rw (p.1, p.2)
-    (entry-several m x c.if-initiator-gt63.false c.if-slot-gt63.false c.if-span-eq0.false c.if-span-gt16.false _ c.in_err-aimed.ensures.0 (some-fault c.in_err-aimed.field-0.0))
+    rw p.1
+    (entry-several m x c.if-initiator-gt63.false c.if-slot-gt63.false c.if-span-eq0.false c.if-span-gt16.false _ (p.2 ∙ c.in_err-aimed.ensures.0) (some-fault p.0))
 
 pub overflow_mul-at : goal.overflow_mul-at
 overflow_mul-at c = omega (arith, row-most c.args.rows.now (nth c.args.numbers.now 2) c.args.initiator c.row_among-row.result c.row_among-row.ensures)

@@ -64,9 +64,9 @@ module _ {s : List ℕ} {over again set k : ℕ} (h : length s ≤ k) (p : Passe
     low : any over63 s ≡ false
     low = high ∙ le-ltb 63 over l
 
-    fault-7 : member 0 again ≡ true → 7 ≡ several_fault s
+    fault-7 : member 0 again ≡ true → (7 ≡ several_fault s) × ((j : ℕ) → member j set ≡ listed s j)
     unfolding several_fault first_of
-    fault-7 b = rw (low, sym (repeated low) ∙ b)
+    fault-7 b = (rw (low, sym (repeated low) ∙ b), (gathers-all h p.numbers).1 low)
 
     fault-none : member 0 again ≡ false → (0 ≡ several_fault s) × ((j : ℕ) → member j set ≡ listed s j)
     unfolding several_fault first_of
@@ -82,7 +82,7 @@ pub returns-then-over-gt63 : goal.returns-then-over-gt63
 returns-then-over-gt63 c = (fault-6 c.loop-n-test.false c.loop-n.invariant c.if-over-gt63.true, _)
 
 pub returns-then-has : goal.returns-then-has
-returns-then-has c = (fault-7 c.loop-n-test.false c.loop-n.invariant c.if-over-gt63.false (sym c.has.ensures ∙ c.if-has.true), _)
+returns-then-has c = fault-7 c.loop-n-test.false c.loop-n.invariant c.if-over-gt63.false (sym c.has.ensures ∙ c.if-has.true)
 
 pub returns : goal.returns
 returns c = fault-none c.loop-n-test.false c.loop-n.invariant c.if-over-gt63.false (sym c.has.ensures ∙ c.if-has.false)
