@@ -82,7 +82,12 @@ fn move_up(places: &mut [u64], k: usize)
     if k == 0 {
         places.copy_within(1.., 0);
     } else {
-        places.copy_within(k + 1.., k);
+        // Kept: no copy from place k on, whose length varies, but a loop over all: with the copy each time-code takes longer (speed).
+        for j in 0..LAST_PLACE {
+            if k <= j {
+                places[j] = places[j + 1];
+            }
+        }
     }
     places[LAST_PLACE] = 0;
 }
