@@ -10,11 +10,12 @@ use Rattle.load_items.specs.declared.several.SeveralFault.TheVariants.{OverMost,
 unfoldable pub several_fault : List ℕ → ℕ
 several_fault xs = first_of ((6, any over63 xs) ∷ (7, twice xs) ∷ [])
 
--- the number of what is told, 0 where it is no fault
+-- document 01's number of why they are refused
 abbrev pub several_number : SeveralFault → ℕ
 several_number OverMost = 6
 several_number (Twice set) = 7
 
+-- the number of what is told, 0 where it is no fault
 abbrev pub several_told : Result ℕ SeveralFault → ℕ
 several_told (Ok set) = 0
 several_told (Err several) = several_number several

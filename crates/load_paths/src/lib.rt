@@ -35,7 +35,8 @@ pub fn store_path(paths: &mut Paths, at: usize, initiator: u8, target: u8, links
     paths[at] = initiator;
     paths[at + PATH_TARGET] = target;
     paths[at + PATH_COUNT] = n as u8;
-    // Kept: no copy of a slice: the archive calls nothing of the C library but memset, and eight places are stored with no loop of copies (speed).
+    // Kept: no copy of a slice, of which the compiler makes a call of memmove: the archive calls nothing of the C library but memset, and eight
+    // stores are faster.
     for k in 0..MOST_LINKS {
         if k < n {
             paths[at + PATH_LINKS + k] = links[k];
